@@ -1,0 +1,18 @@
+-- What a call returns (document 01, "When a call declines").
+use Prim.Native.Nat.{ℕ}
+use mathlib.Core.Bool.{Bool, true, false}
+
+-- a result, or a refusal: its number in document 01's table, and the value beside it (a line, a record, or 0)
+pub data Answer (A : Type 0) : Type 0 where
+  result : A → Answer A
+  refused : (number place : ℕ) → Answer A
+
+-- go on with the result; a refusal is passed up
+abbrev pub onResult : {A B : Type 0} → Answer A → (A → Answer B) → Answer B
+onResult (result a) f = f a
+onResult (refused number place) f = refused number place
+
+-- refused by this number, at this place, unless the test holds
+abbrev pub require : {A : Type 0} → Bool → (number place : ℕ) → Answer A → Answer A
+require true number place a = a
+require false number place a = refused number place

@@ -1,0 +1,1 @@
+// What calls return, as a definition for the crates above. There is no code.

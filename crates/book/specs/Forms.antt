@@ -1,0 +1,77 @@
+-- The forms of a line (document 01, "The book": `p OP D`, `p OP`, `r S V`, `c T < E`, `c T >= E`).
+use Prim.Native.Nat.{ℕ}
+use mathlib.Core.Bool.{cond}
+use mathlib.Core.List.{List, [], _∷_}
+use mathlib.Core.Option.{Option, none, some}
+use lib.IntN.{ℤ}
+use Rattle.arith.specs.Options.{_>>=_, if_then_}
+use Rattle.peal.specs.Policies.{Expression}
+use Rattle.peal.specs.declared.Operator.{Operator}
+use Rattle.peal.specs.declared.Operator.the-variants.{Min, Max, Sum, Mul}
+use Rattle.peal.specs.declared.Sense.{Sense}
+use Rattle.peal.specs.declared.Sense.the-variants.{Above, AtMost}
+use Rattle.book.specs.Text.{bytes, is, fields}
+use Rattle.book.specs.Numbers.{natural, number}
+use Rattle.book.specs.Expressions.{expression}
+
+-- what a line says
+pub data Form : Type 0 where
+  -- `p OP D`, or `p OP` with no default given
+  policy : Operator → Option ℤ → Form
+  -- `r S V`
+  rule : ℕ → ℤ → Form
+  -- `c T < E`, `c T >= E`
+  condition : Sense → ℤ → Expression → Form
+
+-- OP
+unfoldable pub operator : List ℕ → Option Operator
+operator f =
+    cond (is (bytes "min") f) (some Min)
+    (cond (is (bytes "max") f) (some Max)
+    (cond (is (bytes "sum") f) (some Sum)
+    (if is (bytes "mul") f then some Mul)))
+
+-- `<`: the score is above T; `>=`: it is at most T
+unfoldable pub sense : List ℕ → Option Sense
+sense f = cond (is (bytes "<") f) (some Above) (if is (bytes ">=") f then some AtMost)
+
+-- `p OP`
+unfoldable pub barePolicy : List ℕ → Option Form
+barePolicy o = do
+  op ← operator o
+  some (policy op none)
+
+-- `p OP D`
+unfoldable pub fullPolicy : (o d : List ℕ) → Option Form
+fullPolicy o d = do
+  op ← operator o
+  default ← number d
+  some (policy op (some default))
+
+-- `r S V`
+unfoldable pub ruleLine : (s v : List ℕ) → Option Form
+ruleLine s v = do
+  signal ← natural s
+  score ← number v
+  some (rule signal score)
+
+-- `c T < E`, `c T >= E`
+unfoldable pub conditionLine : (t c e : List ℕ) → Option Form
+conditionLine t c e = do
+  threshold ← number t
+  comparison ← sense c
+  set ← expression e
+  some (condition comparison threshold set)
+
+-- the form by the fields
+unfoldable pub formOf : List (List ℕ) → Option Form
+formOf [] = none
+formOf (k ∷ []) = none
+formOf (k ∷ a ∷ []) = if is (bytes "p") k then barePolicy a
+formOf (k ∷ a ∷ b ∷ []) = cond (is (bytes "p") k) (fullPolicy a b) (if is (bytes "r") k then ruleLine a b)
+formOf (k ∷ a ∷ b ∷ e ∷ []) = if is (bytes "c") k then conditionLine a b e
+formOf (k ∷ a ∷ b ∷ e ∷ f ∷ fs) = none
+
+-- the form of a line's bytes; nothing where it has none
+unfoldable pub form : List ℕ → Option Form
+form s = formOf (fields s)

@@ -1,0 +1,61 @@
+-- Bytes, lines and fields (document 01, "The book": bytes in lines, each ended by byte 10; fields parted by exactly one space).
+use Prim.Native.Nat.{ℕ}
+use Prim.Native.Char.{code}
+use Prim.Native.String.{String}
+use mathlib.Core.Bool.{Bool, true, false, cond, _&&_}
+use mathlib.Core.List.{List, [], _∷_}
+use mathlib.Core.Option.{Option, some}
+use lib.Dec.{eqb}
+use lib.ListN.{length, drop}
+use Rattle.arith.specs.Options.{if_then_}
+
+-- the bytes of a quoted text
+abbrev pub bytes : String → List ℕ
+bytes String.[] = []
+bytes (String._∷_ c s) = code c ∷ bytes s
+
+-- a line: its bytes before the end, and whether byte 10 ends it
+pub record Line : Type 0 where
+  pub text : List ℕ
+  pub ended : Bool
+
+-- a byte in front of the first line; in front of none it begins a last line without an end
+unfoldable pub withByte : ℕ → List Line → List Line
+withByte b [] = record { text = b ∷ []; ended = false } ∷ []
+withByte b (l ∷ ls) = record { text = b ∷ l .text; ended = l .ended } ∷ ls
+
+-- the lines of a book; after the last byte 10 there is no further line
+unfoldable pub linesOf : List ℕ → List Line
+linesOf [] = []
+linesOf (b ∷ s) = cond (eqb b 10) (record { text = []; ended = true } ∷ linesOf s) (withByte b (linesOf s))
+
+-- a byte in front of the first piece
+unfoldable pub longer : ℕ → List (List ℕ) → List (List ℕ)
+longer b [] = (b ∷ []) ∷ []
+longer b (f ∷ fs) = (b ∷ f) ∷ fs
+
+-- the pieces of s between the bytes x: two in a row, or one at an end, leave an empty piece
+unfoldable pub parted : ℕ → List ℕ → List (List ℕ)
+parted x [] = [] ∷ []
+parted x (b ∷ s) = cond (eqb b x) ([] ∷ parted x s) (longer b (parted x s))
+
+-- the fields of a line, parted by the space, byte 32
+unfoldable pub fields : List ℕ → List (List ℕ)
+fields s = parted 32 s
+
+-- s is the word w
+unfoldable pub is : List ℕ → List ℕ → Bool
+is [] [] = true
+is [] (b ∷ s) = false
+is (x ∷ w) [] = false
+is (x ∷ w) (b ∷ s) = eqb b x && is w s
+
+-- s begins with the word w
+unfoldable pub begins : List ℕ → List ℕ → Bool
+begins [] s = true
+begins (x ∷ w) [] = false
+begins (x ∷ w) (b ∷ s) = eqb b x && begins w s
+
+-- what stands after the word w that s begins with; nothing where s does not begin with it
+unfoldable pub after : List ℕ → List ℕ → Option (List ℕ)
+after w s = if begins w s then some (drop (length w) s)

@@ -1,0 +1,63 @@
+-- The choice check and the comparison (document 01, "The office's checks").
+use Prim.Native.Nat.{ℕ, zero, suc, _+_}
+use mathlib.Core.Bool.{Bool, not, cond, Bool·beq}
+use mathlib.Core.List.{List}
+use mathlib.Core.Option.{Option, none, some}
+use Rattle.answers.specs.Answers.{Answer, result, refused, onResult}
+use Rattle.layout.specs.Judgement.{verdict}
+use Rattle.rod.specs.Reading.{says}
+
+-- the lowest of the `count` numbers from `from` on that passes the test, if there is one
+unfoldable pub lowestFrom : ℕ → ℕ → (ℕ → Bool) → Option ℕ
+lowestFrom zero from test = none
+lowestFrom (suc count) from test =
+    let later = lowestFrom count (from + 1) test in
+    cond (test from) (some from) later
+
+-- the lowest of all 65,536 signal sets that passes the test, if there is one
+unfoldable pub lowestSet : (ℕ → Bool) → Option ℕ
+lowestSet test = lowestFrom 65536 0 test
+
+-- "always", "never", or "both" with the lowest set that gives yes and the lowest that gives no
+pub data Choice : Type 0 where
+  always never : Choice
+  both : (yes no : ℕ) → Choice
+
+-- from the lowest set that gives yes, and the lowest that gives no
+unfoldable pub choiceOf : Option ℕ → Option ℕ → Choice
+choiceOf (some y) (some n) = both y n
+choiceOf (some y) none = always
+choiceOf none n = never
+
+-- the choice check of a listing
+unfoldable pub choice : List ℕ → Answer Choice
+choice ws = onResult (verdict ws) (λ u. result (choiceOf (lowestSet (says ws)) (lowestSet (λ set. not (says ws set)))))
+
+-- one of the two listings of a comparison
+pub data Which : Type 0 where
+  first second : Which
+
+-- "alike", or the lowest set where the two differ and which says yes; or which was declined, by what number and value
+pub data Comparison : Type 0 where
+  alike : Comparison
+  differ : (set : ℕ) (yes : Which) → Comparison
+  declined : Which → (number place : ℕ) → Comparison
+
+-- the two listings differ on a set
+unfoldable pub differAt : List ℕ → List ℕ → ℕ → Bool
+differAt one two set = not (Bool·beq (says one set) (says two set))
+
+-- from the lowest set where the two differ
+unfoldable pub comparisonOf : Option ℕ → List ℕ → Comparison
+comparisonOf none one = alike
+comparisonOf (some set) one = differ set (cond (says one set) first second)
+
+-- the first listing is examined fully, then the second
+unfoldable pub examined : Answer (Unit {0}) → Answer (Unit {0}) → Comparison → Comparison
+examined (refused number place) v c = declined first number place
+examined (result u) (refused number place) c = declined second number place
+examined (result u) (result v) c = c
+
+-- the comparison of two listings
+unfoldable pub comparison : List ℕ → List ℕ → Comparison
+comparison one two = examined (verdict one) (verdict two) (comparisonOf (lowestSet (differAt one two)) one)

@@ -1,0 +1,3 @@
+pub mod Compiling
+pub mod Meaning
+pub mod Computing

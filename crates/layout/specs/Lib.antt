@@ -1,0 +1,5 @@
+pub mod Records
+pub mod Judgement
+pub mod Nodes
+pub mod Meaning
+pub mod Computing

@@ -1,0 +1,49 @@
+-- The lines of a policy, as sets of its rules (document 01, "From condition to listing").
+use Prim.Native.Nat.{_^_}
+use mathlib.Core.Bool.{Bool, not, _&&_}
+use mathlib.Core.List.{List, [], _∷_, map}
+use lib.IntN.{ℤ, pos, _*ℤ_}
+use lib.ListN.{length, drop}
+use lib.Signed.{leZ, ltZ}
+use Rattle.arith.specs.Lists.{every, keep, subsets}
+use Rattle.peal.specs.Policies.{Rule}
+use Rattle.peal.specs.Score.{total, product}
+use Rattle.peal.specs.Ranking.{ranked}
+use Rattle.peal.specs.declared.Operator.{Operator}
+use Rattle.peal.specs.declared.Operator.the-variants.{Min, Max, Sum, Mul}
+
+-- the sets of rules among which minimal sets are sought: all inside X, X first and the empty set last.
+-- Of rules in falling rank they stand in falling order of the sum of 2 to the rank.
+unfoldable pub setsInside : List Rule → List (List Rule)
+setsInside X = subsets X
+
+-- every set inside X but X itself
+unfoldable pub smallerSets : List Rule → List (List Rule)
+smallerSets X = drop 1 (setsInside X)
+
+-- X has the property, and no smaller set inside it has
+unfoldable pub minimal : (List Rule → Bool) → List Rule → Bool
+minimal property X = property X && every (λ Y. not (property Y)) (smallerSets X)
+
+-- the minimal sets of some rules
+unfoldable pub minimalSets : (List Rule → Bool) → List Rule → List (List Rule)
+minimalSets property rules = keep (minimal property) (setsInside rules)
+
+-- the single rules that pass a test
+unfoldable pub singles : (Rule → Bool) → List Rule → List (List Rule)
+singles test rules = map (λ r. r ∷ []) (keep test rules)
+
+-- the sum exceeds T (the empty set has sum 0)
+unfoldable pub sumAbove : ℤ → List Rule → Bool
+sumAbove t X = ltZ t (total X)
+
+-- the product in units is at most T divided by 100 (the empty set has product one unit): both sides times 100 to the number of rules and one
+unfoldable pub productAtMost : ℤ → List Rule → Bool
+productAtMost t X = leZ (product X *ℤ pos 100) (t *ℤ pos (100 ^ length X))
+
+-- the lines of a policy under threshold T, in falling order of the sum of 2 to the rank
+unfoldable pub lines : Operator → ℤ → List Rule → List (List Rule)
+lines Sum t rules = minimalSets (sumAbove t) (ranked Sum rules)
+lines Mul t rules = minimalSets (productAtMost t) (ranked Mul rules)
+lines Max t rules = singles (λ r. ltZ t (r .score)) (ranked Max rules)
+lines Min t rules = singles (λ r. leZ (r .score) t) (ranked Min rules)

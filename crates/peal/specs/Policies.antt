@@ -1,0 +1,47 @@
+-- Policies, expressions and conditions (document 01, "The book"). Scores and thresholds are hundredths of a unit.
+use Prim.Native.Nat.{ℕ}
+use mathlib.Core.List.{List, []}
+use lib.IntN.{ℤ, pos}
+use lib.ListN.{getD}
+use Rattle.arith.specs.Trees.{Tree}
+use Rattle.peal.specs.declared.Operator.{Operator}
+use Rattle.peal.specs.declared.Operator.the-variants.{Min}
+use Rattle.peal.specs.declared.Sense.{Sense}
+
+-- signal S, score V
+pub record Rule : Type 0 where
+  pub signal : ℕ
+  pub score : ℤ
+
+-- OP, D and the rules in book order
+pub record Policy : Type 0 where
+  pub operator : Operator
+  pub default : ℤ
+  pub rules : List Rule
+
+-- `min(E,E)` takes the smaller of two, `max(E,E)` the larger
+pub data Extremum : Type 0 where
+  smaller larger : Extremum
+
+-- E: mentions of policies by their numbers, joined by min and max
+abbrev pub Expression : Type 0
+Expression = Tree Extremum ℕ
+
+-- `c T < E`, `c T >= E`
+pub record Condition : Type 0 where
+  pub sense : Sense
+  pub threshold : ℤ
+  pub expression : Expression
+
+-- policies and conditions, each counted from 0 in order of appearance
+pub record Book : Type 0 where
+  pub policies : List Policy
+  pub conditions : List Condition
+
+-- a policy with no rules
+unfoldable pub emptyPolicy : Policy
+emptyPolicy = record { operator = Min; default = pos 0; rules = [] }
+
+-- the policy of a number; a book has one for each number that its conditions mention
+unfoldable pub policyAt : List Policy → ℕ → Policy
+policyAt ps n = getD ps n emptyPolicy

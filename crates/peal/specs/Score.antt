@@ -1,0 +1,73 @@
+-- The published score and the decision (document 01, "The scored decision"; document 000, section 2).
+use Prim.Native.Nat.{ℕ, _-_, _^_}
+use mathlib.Core.Bool.{Bool, cond}
+use mathlib.Core.List.{List, [], _∷_}
+use lib.IntN.{ℤ, pos, _+ℤ_, _*ℤ_}
+use lib.ListN.{length}
+use lib.Signed.{leZ, ltZ}
+use Rattle.arith.specs.Lists.{keep}
+use Rattle.arith.specs.Trees.{treeValue}
+use Rattle.signals.specs.Sets.{present}
+use Rattle.peal.specs.Policies.{Rule, Policy, Extremum, smaller, larger, Expression, Condition, policyAt}
+use Rattle.peal.specs.declared.Operator.{Operator}
+use Rattle.peal.specs.declared.Operator.the-variants.{Min, Max, Sum, Mul}
+use Rattle.peal.specs.declared.Sense.{Sense}
+use Rattle.peal.specs.declared.Sense.the-variants.{Above, AtMost}
+
+-- Scores are exact, in parts of which a unit has 10 to the 16: a product of at most eight scores in hundredths is then whole.
+-- Some hundredths, in parts.
+unfoldable pub scaled : ℤ → ℤ
+scaled v = v *ℤ pos (10 ^ 14)
+
+-- the rules whose signal is present
+unfoldable pub presentRules : ℕ → List Rule → List Rule
+presentRules set rules = keep (λ r. present set (r .signal)) rules
+
+-- the sum of the scores of some rules
+unfoldable pub total : List Rule → ℤ
+total [] = pos 0
+total (r ∷ rs) = r .score +ℤ total rs
+
+-- the product of the scores of some rules; divided by 100 to their number it is in units
+unfoldable pub product : List Rule → ℤ
+product [] = pos 1
+product (r ∷ rs) = r .score *ℤ product rs
+
+-- the smaller or the larger of two
+unfoldable pub extremum : Extremum → ℤ → ℤ → ℤ
+extremum smaller a b = cond (leZ a b) a b
+extremum larger a b = cond (leZ a b) b a
+
+-- the smallest or the largest score of a rule and more
+unfoldable pub extreme : Extremum → Rule → List Rule → ℤ
+extreme e r [] = r .score
+extreme e r (q ∷ rs) = extremum e (r .score) (extreme e q rs)
+
+-- the operator applied to the scores of a rule and more, in parts
+unfoldable pub applied : Operator → Rule → List Rule → ℤ
+applied Min r rs = scaled (extreme smaller r rs)
+applied Max r rs = scaled (extreme larger r rs)
+applied Sum r rs = scaled (total (r ∷ rs))
+applied Mul r rs = product (r ∷ rs) *ℤ pos (100 ^ (8 - length (r ∷ rs)))
+
+-- with no rule present the default; otherwise the operator over the present rules alone
+unfoldable pub scoreOf : Policy → List Rule → ℤ
+scoreOf p [] = scaled (p .default)
+scoreOf p (r ∷ rs) = applied (p .operator) r rs
+
+-- the score of a policy on a signal set, in parts
+unfoldable pub policyScore : ℕ → Policy → ℤ
+policyScore set p = scoreOf p (presentRules set (p .rules))
+
+-- the score of an expression: min and max take the smaller and the larger score
+unfoldable pub score : List Policy → ℕ → Expression → ℤ
+score ps set e = treeValue extremum (λ n. policyScore set (policyAt ps n)) e
+
+-- a score in parts meets the condition: T is less than it, or it is at most T
+unfoldable pub meets : Sense → ℤ → ℤ → Bool
+meets Above t s = ltZ (scaled t) s
+meets AtMost t s = leZ s (scaled t)
+
+-- the decision
+unfoldable pub decision : List Policy → Condition → ℕ → Bool
+decision ps c set = meets (c .sense) (c .threshold) (score ps set (c .expression))

@@ -1,0 +1,11 @@
+-- What the answers of the code mean, by document 01's numbers.
+use mathlib.Core.Bool.{Bool, true, false}
+use Rattle.answers.specs.Answers.{Answer, result}
+use Rattle.layout.specs.Meaning.{faultMeaning}
+use Rattle.rod.specs.declared.Decision.{Decision}
+use Rattle.rod.specs.declared.Decision.the-variants.{Yes, No, Declined}
+
+abbrev pub decisionMeaning : Decision → Answer Bool
+decisionMeaning Yes = result true
+decisionMeaning No = result false
+decisionMeaning (Declined f) = faultMeaning f

@@ -1,0 +1,44 @@
+-- The rod's reading of a listing on a signal set (document 01, "The rod's reading").
+use Prim.Native.Nat.{ℕ}
+use mathlib.Core.Bool.{Bool, false, not, cond, _&&_, _||_}
+use mathlib.Core.List.{List, [], _∷_}
+use Rattle.arith.specs.Lists.{any}
+use Rattle.arith.specs.Trees.{run}
+use Rattle.answers.specs.Answers.{Answer, result, onResult}
+use Rattle.signals.specs.Sets.{inside, overlap}
+use Rattle.layout.specs.Records.{Join, and, or, records}
+use Rattle.layout.specs.Judgement.{verdict}
+use Rattle.layout.specs.Nodes.{ListedPolicy, ListedNode, nodes}
+
+-- some line's mask lies wholly inside the set
+unfoldable pub someLine : List ℕ → ℕ → Bool
+someLine lines set = any (λ l. inside l set) lines
+
+-- a policy whose mask shares no signal with the set gives quiet; otherwise yes if some line lies inside the set, turned over if turned
+unfoldable pub policyValue : ℕ → ListedPolicy → Bool
+policyValue set p =
+    cond (overlap (p .mask) set)
+    (cond (p .turned) (not (someLine (p .lines) set)) (someLine (p .lines) set))
+    (p .quiet)
+
+-- joins are the usual and, or
+unfoldable pub joined : Join → Bool → Bool → Bool
+joined and a b = a && b
+joined or a b = a || b
+
+-- the value that remains at the end
+unfoldable pub last : List Bool → Bool
+last [] = false
+last (b ∷ values) = b
+
+-- what some nodes say of a set
+unfoldable pub reading : List ListedNode → ℕ → Bool
+reading ns set = last (run joined (policyValue set) ns [])
+
+-- what the words of a sound listing say of a set
+unfoldable pub says : List ℕ → ℕ → Bool
+says ws set = reading (nodes (records ws)) set
+
+-- the rod's answer: the listing's refusal, or yes or no
+unfoldable pub rodAnswer : List ℕ → ℕ → Answer Bool
+rodAnswer ws set = onResult (verdict ws) (λ u. result (says ws set))

@@ -1,0 +1,7 @@
+-- No meaning: an example that computes with the definitions of this crate and those below says `unfolding scoreComputes`.
+use Rattle.book.specs.Computing.{bookComputes}
+use Rattle.score.specs.Decisions.{scoredAnswer}
+
+unfoldable pub scoreComputes : Unit {0}
+unfolding bookComputes scoredAnswer
+scoreComputes = tt

@@ -1,0 +1,1 @@
+// Signal sets, as bits of a number.
