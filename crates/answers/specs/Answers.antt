@@ -5,14 +5,14 @@ use mathlib.Core.Bool.{Bool, true, false}
 -- a result, or a refusal: its number in document 01's table, and the value beside it (a line, a record, or 0)
 pub data Answer (A : Type 0) : Type 0 where
   result : A → Answer A
-  refused : (number place : ℕ) → Answer A
+  refused : (number value : ℕ) → Answer A
 
 -- go on with the result; a refusal is passed up
 abbrev pub onResult : {A B : Type 0} → Answer A → (A → Answer B) → Answer B
 onResult (result a) f = f a
-onResult (refused number place) f = refused number place
+onResult (refused number value) f = refused number value
 
--- refused by this number, at this place, unless the test holds
-abbrev pub require : {A : Type 0} → Bool → (number place : ℕ) → Answer A → Answer A
-require true number place a = a
-require false number place a = refused number place
+-- refused by this number, with this value beside it, unless the test holds
+abbrev pub require : {A : Type 0} → Bool → (number value : ℕ) → Answer A → Answer A
+require true number value a = a
+require false number value a = refused number value

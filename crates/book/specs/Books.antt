@@ -6,30 +6,39 @@ use lib.Dec.{leb}
 use lib.ListN.{length}
 use Rattle.answers.specs.Answers.{Answer, result, refused, onResult, require}
 use Rattle.peal.specs.Policies.{Condition, Book}
-use Rattle.book.specs.Text.{Line, linesOf}
+use Rattle.book.specs.Text.{Line, textLines}
 use Rattle.book.specs.Forms.{Form, form}
-use Rattle.book.specs.Acceptance.{Reading, start, accept}
+use Rattle.book.specs.Acceptance.{BookSoFar, noLine, accept}
 
 -- line n by its form: 2 where it has none, then 3 to 6
-unfoldable pub acceptForm : ℕ → Reading → Option Form → Answer Reading
-acceptForm n r none = refused 2 n
-acceptForm n r (some f) = accept n r f
+unfoldable pub acceptForm : ℕ → BookSoFar → Option Form → Answer BookSoFar
+acceptForm n so none = refused 2 n
+acceptForm n so (some f) = accept n so f
 
 -- line n: 1 where it is over 128 bytes, 2 where it has no end or no form, then 3 to 6
-unfoldable pub readLine : ℕ → Reading → Line → Answer Reading
-readLine n r l =
+unfoldable pub readLine : ℕ → BookSoFar → Line → Answer BookSoFar
+readLine n so l =
     require (leb (length (l .text)) 128) 1 n
     (require (l .ended) 2 n
-    (acceptForm n r (form (l .text))))
+    (acceptForm n so (form (l .text))))
 
 -- the lines from the top, of which the first is line n
-unfoldable pub readLines : ℕ → Reading → List Line → Answer Book
-readLines n r [] = result (r .book)
-readLines n r (l ∷ ls) = onResult (readLine n r l) (λ q. readLines (n + 1) q ls)
+unfoldable pub readLines : ℕ → BookSoFar → List Line → Answer Book
+readLines n so [] = result (so .book)
+readLines n so (l ∷ ls) = onResult (readLine n so l) (λ next. readLines (n + 1) next ls)
 
 -- the book's bytes: 1 with line 0 where they are over 8,192, then the lines
 unfoldable pub read : List ℕ → Answer Book
-read s = require (leb (length s) 8192) 1 0 (readLines 1 start (linesOf s))
+read s = require (leb (length s) 8192) 1 0 (readLines 1 noLine (textLines s))
+
+-- how many policies and conditions a book has
+pub record Counts : Type 0 where
+  pub policies : ℕ
+  pub conditions : ℕ
+
+-- what a check of a book's bytes tells: refusals 1 to 6, or the counts
+unfoldable pub checked : List ℕ → Answer Counts
+checked s = onResult (read s) (λ b. result (record { policies = length (b .policies); conditions = length (b .conditions) }))
 
 -- the condition of a number, counted from 0; 7 where there is none
 unfoldable pub conditionAt : List Condition → ℕ → Answer Condition
@@ -37,11 +46,6 @@ conditionAt [] n = refused 7 0
 conditionAt (c ∷ cs) zero = result c
 conditionAt (c ∷ cs) (suc n) = conditionAt cs n
 
--- how many policies and conditions a book has
-pub record Counts : Type 0 where
-  pub policies : ℕ
-  pub conditions : ℕ
-
--- what a check of a book's bytes tells
-unfoldable pub checked : List ℕ → Answer Counts
-checked s = onResult (read s) (λ b. result (record { policies = length (b .policies); conditions = length (b .conditions) }))
+-- a book's bytes and a condition's number: the book and the condition, or refusals 1 to 7
+unfoldable pub asked : List ℕ → ℕ → Answer (Book × Condition)
+asked bytes number = onResult (read bytes) (λ b. onResult (conditionAt (b .conditions) number) (λ c. result (b, c)))

@@ -1,12 +1,12 @@
 -- No meaning: an example that computes with the definitions of this crate and those below says `unfolding bookComputes`.
 use Rattle.peal.specs.Computing.{pealComputes}
-use Rattle.book.specs.Text.{withByte, linesOf, longer, parted, fields, is, begins, after}
+use Rattle.book.specs.Text.{longer, parted, asLines, textLines, fields, is, begins, after}
 use Rattle.book.specs.Numbers.{isDigit, withDigits, noLeadingZero, natural, positive, negative, number}
-use Rattle.book.specs.Expressions.{digitCount, mention, opening, joined, byOpening, set, alone, expression}
-use Rattle.book.specs.Forms.{operator, sense, barePolicy, fullPolicy, ruleLine, conditionLine, formOf, form}
-use Rattle.book.specs.Acceptance.{start, lastPolicy, inPlace, roomForRule, inCount, within, defaultOf, scoreInRange, mentionsBelow, inRange, isNew, withRule, changeLast, bookWith, opensRules, accept}
-use Rattle.book.specs.Books.{acceptForm, readLine, readLines, read, conditionAt, checked}
+use Rattle.book.specs.Expressions.{mentionWord, minMaxWord, digitCount, mention, opening, joinedPair, byOpening, readSet, nothingBehind, expression}
+use Rattle.book.specs.Forms.{operatorWord, operator, senseWord, sense, barePolicy, fullPolicy, ruleLine, conditionLine, formOf, form}
+use Rattle.book.specs.Acceptance.{noLine, lastPolicy, inPlace, roomForRule, inCount, within, defaultInRange, scoreInRange, mentionsBelow, inRange, isNew, defaultOf, withRule, withPolicies, withCondition, bookWith, opensRules, accept}
+use Rattle.book.specs.Books.{acceptForm, readLine, readLines, read, checked, conditionAt, asked}
 
 unfoldable pub bookComputes : Unit {0}
-unfolding pealComputes withByte linesOf longer parted fields is begins after isDigit withDigits noLeadingZero natural positive negative number digitCount mention opening joined byOpening set alone expression operator sense barePolicy fullPolicy ruleLine conditionLine formOf form start lastPolicy inPlace roomForRule inCount within defaultOf scoreInRange mentionsBelow inRange isNew withRule changeLast bookWith opensRules accept acceptForm readLine readLines read conditionAt checked
+unfolding pealComputes longer parted asLines textLines fields is begins after isDigit withDigits noLeadingZero natural positive negative number mentionWord minMaxWord digitCount mention opening joinedPair byOpening readSet nothingBehind expression operatorWord operator senseWord sense barePolicy fullPolicy ruleLine conditionLine formOf form noLine lastPolicy inPlace roomForRule inCount within defaultInRange scoreInRange mentionsBelow inRange isNew defaultOf withRule withPolicies withCondition bookWith opensRules accept acceptForm readLine readLines read checked conditionAt asked
 bookComputes = tt

@@ -6,9 +6,18 @@ use mathlib.Core.Option.{Option, none, some}
 use lib.ListN.{length, take, drop}
 use Rattle.arith.specs.Options.{_>>=_}
 use Rattle.arith.specs.Trees.{leaf, join}
-use Rattle.peal.specs.Policies.{Extremum, smaller, larger, Expression}
+use Rattle.peal.specs.Policies.{MinMax, smaller, larger, Expression}
 use Rattle.book.specs.Text.{bytes, begins, after}
 use Rattle.book.specs.Numbers.{isDigit, natural}
+
+-- `p`
+unfoldable pub mentionWord : List ℕ
+mentionWord = bytes "p"
+
+-- `min`, `max`
+unfoldable pub minMaxWord : MinMax → List ℕ
+minMaxWord smaller = bytes "min"
+minMaxWord larger = bytes "max"
 
 -- how many digits s begins with
 unfoldable pub digitCount : List ℕ → ℕ
@@ -24,48 +33,49 @@ mention s = do
 -- how an expression begins, with `p`, `min` or `max`, and the bytes after that
 pub data Opening : Type 0 where
   mentions : List ℕ → Opening
-  joins : Extremum → List ℕ → Opening
+  joins : MinMax → List ℕ → Opening
   neither : Opening
 
+-- the opening of s
 unfoldable pub opening : List ℕ → Opening
 opening s =
-    cond (begins (bytes "p") s) (mentions (drop 1 s))
-    (cond (begins (bytes "min") s) (joins smaller (drop 3 s))
-    (cond (begins (bytes "max") s) (joins larger (drop 3 s)) neither))
+    cond (begins mentionWord s) (mentions (drop (length mentionWord) s))
+    (cond (begins (minMaxWord smaller) s) (joins smaller (drop (length (minMaxWord smaller)) s))
+    (cond (begins (minMaxWord larger) s) (joins larger (drop (length (minMaxWord larger)) s)) neither))
 
 -- the two of a pair, joined
-unfoldable pub joined : Extremum → Expression × Expression × List ℕ → Option (Expression × List ℕ)
-joined e (a, b, s) = some (join e a b, s)
+unfoldable pub joinedPair : MinMax → Expression × Expression × List ℕ → Option (Expression × List ℕ)
+joinedPair m (a, b, s) = some (join m a b, s)
 
 -- an expression by its opening; `pair` reads the pair behind `min` or `max`
 unfoldable pub byOpening : Opening → (List ℕ → Option (Expression × Expression × List ℕ)) → Option (Expression × List ℕ)
 byOpening (mentions s) pair = mention s
-byOpening (joins e s) pair = pair s >>= joined e
+byOpening (joins m s) pair = pair s >>= joinedPair m
 byOpening neither pair = none
 
 unfoldable mutual
-  -- E at the front of s, and the bytes after it; k bounds the depth of the nesting
-  pub set : ℕ → List ℕ → Option (Expression × List ℕ)
-  set zero s = none
-  set (suc k) s = byOpening (opening s) (λ t. pair k t)
+  -- E, also called a set, at the front of s, and the bytes after it; k bounds the depth of the nesting
+  pub readSet : ℕ → List ℕ → Option (Expression × List ℕ)
+  readSet zero s = none
+  readSet (suc k) s = byOpening (opening s) (λ t. readPair k t)
 
   -- `(E,E)` at the front of s: the two, and the bytes after it
-  pub pair : ℕ → List ℕ → Option (Expression × Expression × List ℕ)
-  pair zero s = none
-  pair (suc k) s = do
+  pub readPair : ℕ → List ℕ → Option (Expression × Expression × List ℕ)
+  readPair zero s = none
+  readPair (suc k) s = do
     t ← after (bytes "(") s
-    (a, u) ← set k t
+    (a, u) ← readSet k t
     v ← after (bytes ",") u
-    (b, w) ← set k v
+    (b, w) ← readSet k v
     x ← after (bytes ")") w
     some (a, b, x)
 
 -- nothing stands behind the expression
-unfoldable pub alone : Option (Expression × List ℕ) → Option Expression
-alone none = none
-alone (some (e, [])) = some e
-alone (some (e, b ∷ s)) = none
+unfoldable pub nothingBehind : Option (Expression × List ℕ) → Option Expression
+nothingBehind none = none
+nothingBehind (some (e, [])) = some e
+nothingBehind (some (e, b ∷ s)) = none
 
 -- the expression that a field is; its bytes bound the nesting
 unfoldable pub expression : List ℕ → Option Expression
-expression s = alone (set (length s) s)
+expression s = nothingBehind (readSet (length s) s)

@@ -23,17 +23,29 @@ pub data Form : Type 0 where
   -- `c T < E`, `c T >= E`
   condition : Sense → ℤ → Expression → Form
 
--- OP
+-- OP is `min`, `max`, `sum` or `mul`
+unfoldable pub operatorWord : Operator → List ℕ
+operatorWord Min = bytes "min"
+operatorWord Max = bytes "max"
+operatorWord Sum = bytes "sum"
+operatorWord Mul = bytes "mul"
+
+-- the operator that a field spells
 unfoldable pub operator : List ℕ → Option Operator
 operator f =
-    cond (is (bytes "min") f) (some Min)
-    (cond (is (bytes "max") f) (some Max)
-    (cond (is (bytes "sum") f) (some Sum)
-    (if is (bytes "mul") f then some Mul)))
+    cond (is (operatorWord Min) f) (some Min)
+    (cond (is (operatorWord Max) f) (some Max)
+    (cond (is (operatorWord Sum) f) (some Sum)
+    (if is (operatorWord Mul) f then some Mul)))
 
--- `<`: the score is above T; `>=`: it is at most T
+-- `<`: T is less than E; `>=`: E is at most T
+unfoldable pub senseWord : Sense → List ℕ
+senseWord Above = bytes "<"
+senseWord AtMost = bytes ">="
+
+-- the sense that a field spells
 unfoldable pub sense : List ℕ → Option Sense
-sense f = cond (is (bytes "<") f) (some Above) (if is (bytes ">=") f then some AtMost)
+sense f = cond (is (senseWord Above) f) (some Above) (if is (senseWord AtMost) f then some AtMost)
 
 -- `p OP`
 unfoldable pub barePolicy : List ℕ → Option Form
@@ -60,8 +72,8 @@ unfoldable pub conditionLine : (t c e : List ℕ) → Option Form
 conditionLine t c e = do
   threshold ← number t
   comparison ← sense c
-  set ← expression e
-  some (condition comparison threshold set)
+  asked ← expression e
+  some (condition comparison threshold asked)
 
 -- the form by the fields
 unfoldable pub formOf : List (List ℕ) → Option Form

@@ -21,6 +21,7 @@ reasonNumber Repeated = 6
 abbrev pub refusalMeaning : {A : Type 0} → Refusal → Answer A
 refusalMeaning r = refused (reasonNumber (r .reason)) (r .line)
 
+-- the answer of `book::check`
 abbrev pub checkedMeaning : Checked → Answer Counts
 checkedMeaning (Accepted p c) = result (record { policies = p; conditions = c })
 checkedMeaning (Refused r) = refusalMeaning r

@@ -19,25 +19,26 @@ pub record Line : Type 0 where
   pub text : List ℕ
   pub ended : Bool
 
--- a byte in front of the first line; in front of none it begins a last line without an end
-unfoldable pub withByte : ℕ → List Line → List Line
-withByte b [] = record { text = b ∷ []; ended = false } ∷ []
-withByte b (l ∷ ls) = record { text = b ∷ l .text; ended = l .ended } ∷ ls
-
--- the lines of a book; after the last byte 10 there is no further line
-unfoldable pub linesOf : List ℕ → List Line
-linesOf [] = []
-linesOf (b ∷ s) = cond (eqb b 10) (record { text = []; ended = true } ∷ linesOf s) (withByte b (linesOf s))
-
 -- a byte in front of the first piece
 unfoldable pub longer : ℕ → List (List ℕ) → List (List ℕ)
 longer b [] = (b ∷ []) ∷ []
-longer b (f ∷ fs) = (b ∷ f) ∷ fs
+longer b (p ∷ ps) = (b ∷ p) ∷ ps
 
 -- the pieces of s between the bytes x: two in a row, or one at an end, leave an empty piece
 unfoldable pub parted : ℕ → List ℕ → List (List ℕ)
 parted x [] = [] ∷ []
 parted x (b ∷ s) = cond (eqb b x) ([] ∷ parted x s) (longer b (parted x s))
+
+-- pieces as lines: each but the last is ended; behind the last end there is no further line
+unfoldable pub asLines : List (List ℕ) → List Line
+asLines [] = []
+asLines ([] ∷ []) = []
+asLines ((b ∷ s) ∷ []) = record { text = b ∷ s; ended = false } ∷ []
+asLines (p ∷ q ∷ ps) = record { text = p; ended = true } ∷ asLines (q ∷ ps)
+
+-- the lines of a book, each ended by byte 10
+unfoldable pub textLines : List ℕ → List Line
+textLines s = asLines (parted 10 s)
 
 -- the fields of a line, parted by the space, byte 32
 unfoldable pub fields : List ℕ → List (List ℕ)

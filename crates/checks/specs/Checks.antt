@@ -10,9 +10,7 @@ use Rattle.rod.specs.Reading.{says}
 -- the lowest of the `count` numbers from `from` on that passes the test, if there is one
 unfoldable pub lowestFrom : ℕ → ℕ → (ℕ → Bool) → Option ℕ
 lowestFrom zero from test = none
-lowestFrom (suc count) from test =
-    let later = lowestFrom count (from + 1) test in
-    cond (test from) (some from) later
+lowestFrom (suc count) from test = cond (test from) (some from) (lowestFrom count (from + 1) test)
 
 -- the lowest of all 65,536 signal sets that passes the test, if there is one
 unfoldable pub lowestSet : (ℕ → Bool) → Option ℕ
@@ -41,7 +39,7 @@ pub data Which : Type 0 where
 pub data Comparison : Type 0 where
   alike : Comparison
   differ : (set : ℕ) (yes : Which) → Comparison
-  declined : Which → (number place : ℕ) → Comparison
+  declined : Which → (number value : ℕ) → Comparison
 
 -- the two listings differ on a set
 unfoldable pub differAt : List ℕ → List ℕ → ℕ → Bool
@@ -54,8 +52,8 @@ comparisonOf (some set) one = differ set (cond (says one set) first second)
 
 -- the first listing is examined fully, then the second
 unfoldable pub examined : Answer (Unit {0}) → Answer (Unit {0}) → Comparison → Comparison
-examined (refused number place) v c = declined first number place
-examined (result u) (refused number place) c = declined second number place
+examined (refused number value) v c = declined first number value
+examined (result u) (refused number value) c = declined second number value
 examined (result u) (result v) c = c
 
 -- the comparison of two listings

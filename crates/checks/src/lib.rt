@@ -5,7 +5,7 @@ pub enum Choice {
     Always,
     Never,
     // The lowest set that gives yes, and the lowest that gives no.
-    Both(u32, u32),
+    Both(u16, u16),
     // The listing was declined.
     Declined(layout::Fault),
 }
@@ -14,8 +14,8 @@ pub enum Choice {
 pub enum Comparison {
     Alike,
     // The lowest set where they differ, and which listing says yes there.
-    FirstYes(u32),
-    SecondYes(u32),
+    FirstYes(u16),
+    SecondYes(u16),
     // Which listing was declined.
     FirstDeclined(layout::Fault),
     SecondDeclined(layout::Fault),

@@ -1,13 +1,12 @@
 -- Compiling on a book's bytes: the listing, or refusals 1 to 8, and the lent words (document 01, "When a call declines").
-use Prim.Native.Nat.{ℕ}
+use Prim.Native.Nat.{ℕ, _*_}
 use mathlib.Core.List.{List, _++_}
 use lib.Dec.{leb}
-use lib.ListN.{length, drop}
+use lib.ListN.{length, take, drop}
 use Rattle.answers.specs.Answers.{Answer, result, refused, onResult, require}
 use Rattle.layout.specs.Records.{Record, words}
-use Rattle.peal.specs.Policies.{Condition, Book}
-use Rattle.peal.specs.Translation.{compiledRecords}
-use Rattle.book.specs.Books.{read, conditionAt}
+use Rattle.peal.specs.Translation.{listingRecords}
+use Rattle.book.specs.Books.{asked}
 
 -- some records, or 8 where they have more words than were lent
 unfoldable pub fitting : ℕ → List Record → Answer (List Record)
@@ -15,12 +14,9 @@ fitting lent rs = require (leb (length (words rs)) lent) 8 0 (result rs)
 
 -- the records of the condition of that number, for so many lent words
 unfoldable pub compiled : List ℕ → ℕ → ℕ → Answer (List Record)
-compiled bytes number lent =
-    onResult (read bytes) (λ b.
-    onResult (conditionAt (b .conditions) number) (λ c.
-    fitting lent (compiledRecords (b .policies) c)))
+compiled bytes number lent = onResult (asked bytes number) (λ (b, c). fitting lent (listingRecords b c))
 
--- what compiling returns: the number of records
+-- what compiling returns, the number of records
 unfoldable pub returned : Answer (List Record) → Answer ℕ
 returned a = onResult a (λ rs. result (length rs))
 
@@ -28,3 +24,7 @@ returned a = onResult a (λ rs. result (length rs))
 unfoldable pub lentAfter : List ℕ → Answer (List Record) → List ℕ
 lentAfter lent (result rs) = words rs ++ drop (length (words rs)) lent
 lentAfter lent (refused number place) = lent
+
+-- the compiled listing: the first words as compiling left them, four for each record in the number it returned
+unfoldable pub compiledListing : ℕ → List ℕ → List ℕ
+compiledListing count lent = take (4 * count) lent

@@ -5,6 +5,7 @@ use Rattle.book.specs.Meaning.{refusalMeaning}
 use Rattle.compiler.specs.declared.Compiled.{Compiled}
 use Rattle.compiler.specs.declared.Compiled.the-variants.{Records, Refused, NoCondition, NoRoom}
 
+-- the answer of `compiler::compile`
 abbrev pub compiledMeaning : Compiled → Answer ℕ
 compiledMeaning (Records n) = result n
 compiledMeaning (Refused r) = refusalMeaning r

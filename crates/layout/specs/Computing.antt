@@ -1,10 +1,10 @@
 -- No meaning: an example that computes with the definitions of this crate and those below says `unfolding layoutComputes`.
 use Rattle.arith.specs.Trees.{postfix}
 use Rattle.signals.specs.Computing.{signalsCompute}
-use Rattle.layout.specs.Records.{words, records, bit, kindOf, policyKind, joinKind, kinds}
-use Rattle.layout.specs.Judgement.{ifAny, ifLine, nextNode, start, insideOwner, keeps, passed, walk, whole, verdict}
-use Rattle.layout.specs.Nodes.{lineRecords, nodeRecords, treeRecords, lineThen, linesOf, nodeThen, nodes}
+use Rattle.layout.specs.Records.{words, records, bit, lineKind, joinKind, policyKind, kindOf, isLine, kinds}
+use Rattle.layout.specs.Judgement.{ifAny, ifLine, nextNode, noRecord, insidePolicy, keepsLayout, soFarAfter, judged, lengthSound, verdict}
+use Rattle.layout.specs.Nodes.{lineRecords, nodeRecords, leadingLines, nodeThen, nodes}
 
 unfoldable pub layoutComputes : Unit {0}
-unfolding signalsCompute postfix words records bit kindOf policyKind joinKind kinds ifAny ifLine nextNode start insideOwner keeps passed walk whole verdict lineRecords nodeRecords treeRecords lineThen linesOf nodeThen nodes
+unfolding signalsCompute postfix words records bit lineKind joinKind policyKind kindOf isLine kinds ifAny ifLine nextNode noRecord insidePolicy keepsLayout soFarAfter judged lengthSound verdict lineRecords nodeRecords leadingLines nodeThen nodes
 layoutComputes = tt

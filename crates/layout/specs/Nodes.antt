@@ -1,10 +1,10 @@
 -- The nodes of a listing, and the listing of some nodes (document 01, "From condition to listing").
 use Prim.Native.Nat.{ℕ, _+_}
-use mathlib.Core.Bool.{Bool}
+use mathlib.Core.Bool.{Bool, cond}
 use mathlib.Core.List.{List, [], _∷_, _++_}
 use lib.ListN.{length}
-use Rattle.arith.specs.Trees.{Tree, Node, value, joining, postfix}
-use Rattle.layout.specs.Records.{Record, Join, Kind, policy, line, join, unknown, kindOf, policyKind, joinKind, words}
+use Rattle.arith.specs.Trees.{Tree, Node, value, joining}
+use Rattle.layout.specs.Records.{Record, Join, Kind, policy, line, join, unknown, isLine, kindOf, lineKind, policyKind, joinKind}
 use Rattle.layout.specs.Judgement.{ifAny}
 
 -- a policy as a listing has it: its flags, the mask of all its signals, the sets of its lines
@@ -25,7 +25,7 @@ ListedTree = Tree Join ListedPolicy
 -- the records of a policy's lines, the first of which is record n
 unfoldable pub lineRecords : ℕ → List ℕ → List Record
 lineRecords n [] = []
-lineRecords n (l ∷ ls) = record { kind = 4; mask = l; lines = 0; next = ifAny ls (n + 1) } ∷ lineRecords (n + 1) ls
+lineRecords n (l ∷ ls) = record { kind = lineKind; mask = l; lines = 0; next = ifAny ls (n + 1) } ∷ lineRecords (n + 1) ls
 
 -- the records of some nodes, the first of which is record n: a policy's lines follow it directly, and each node is chained to the next
 unfoldable pub nodeRecords : ℕ → List ListedNode → List Record
@@ -41,21 +41,10 @@ nodeRecords n (value p ∷ ns) =
 nodeRecords n (joining j ∷ ns) =
     record { kind = joinKind j; mask = 0; lines = 0; next = ifAny ns (n + 1) } ∷ nodeRecords (n + 1) ns
 
--- the records of a tree, from record 1 on
-unfoldable pub treeRecords : ListedTree → List Record
-treeRecords t = nodeRecords 1 (postfix t)
-
--- a line's set, in front of those of the lines after it; any other kind ends the lines
-unfoldable pub lineThen : Kind → ℕ → List ℕ → List ℕ
-lineThen line mask ls = mask ∷ ls
-lineThen (policy q t) mask ls = []
-lineThen (join j) mask ls = []
-lineThen unknown mask ls = []
-
 -- the sets of the lines that some records begin with
-unfoldable pub linesOf : List Record → List ℕ
-linesOf [] = []
-linesOf (r ∷ rest) = lineThen (kindOf (r .kind)) (r .mask) (linesOf rest)
+unfoldable pub leadingLines : List Record → List ℕ
+leadingLines [] = []
+leadingLines (r ∷ rest) = cond (isLine (kindOf (r .kind))) (r .mask ∷ leadingLines rest) []
 
 -- a record's node, in front of the nodes after it; a policy has the lines that follow it; a line is no node
 unfoldable pub nodeThen : Kind → ℕ → List ℕ → List ListedNode → List ListedNode
@@ -67,4 +56,4 @@ nodeThen unknown mask ls ns = ns
 -- the nodes of some records, in their order
 unfoldable pub nodes : List Record → List ListedNode
 nodes [] = []
-nodes (r ∷ rest) = nodeThen (kindOf (r .kind)) (r .mask) (linesOf rest) (nodes rest)
+nodes (r ∷ rest) = nodeThen (kindOf (r .kind)) (r .mask) (leadingLines rest) (nodes rest)

@@ -40,25 +40,37 @@ unfoldable pub bit : Bool → ℕ
 bit true = 1
 bit false = 0
 
--- 4 line, 2 and, 3 or, 16 + quiet + 2 × turned policy
-unfoldable pub kindOf : ℕ → Kind
-kindOf k =
-    cond (eqb k 4) line
-    (cond (eqb k 2) (join and)
-    (cond (eqb k 3) (join or)
-    (cond (eqb k 16) (policy false false)
-    (cond (eqb k 17) (policy true false)
-    (cond (eqb k 18) (policy false true)
-    (cond (eqb k 19) (policy true true)
-    unknown))))))
+-- 4 line
+unfoldable pub lineKind : ℕ
+lineKind = 4
 
--- the number of a policy's kind, and of a join's
-unfoldable pub policyKind : (quiet turned : Bool) → ℕ
-policyKind quiet turned = 16 + bit quiet + 2 * bit turned
-
+-- 2 and, 3 or
 unfoldable pub joinKind : Join → ℕ
 joinKind and = 2
 joinKind or = 3
+
+-- 16 + quiet + 2 × turned policy
+unfoldable pub policyKind : (quiet turned : Bool) → ℕ
+policyKind quiet turned = 16 + bit quiet + 2 * bit turned
+
+-- what a record is by its first word
+unfoldable pub kindOf : ℕ → Kind
+kindOf k =
+    cond (eqb k lineKind) line
+    (cond (eqb k (joinKind and)) (join and)
+    (cond (eqb k (joinKind or)) (join or)
+    (cond (eqb k (policyKind false false)) (policy false false)
+    (cond (eqb k (policyKind true false)) (policy true false)
+    (cond (eqb k (policyKind false true)) (policy false true)
+    (cond (eqb k (policyKind true true)) (policy true true)
+    unknown))))))
+
+-- a record is a line
+unfoldable pub isLine : Kind → Bool
+isLine line = true
+isLine (policy q t) = false
+isLine (join j) = false
+isLine unknown = false
 
 -- the kinds of some records, in their order
 unfoldable pub kinds : List Record → List Kind

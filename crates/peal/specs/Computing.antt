@@ -2,11 +2,11 @@
 use Rattle.arith.specs.Trees.{mapTree, treeValue}
 use Rattle.layout.specs.Computing.{layoutComputes}
 use Rattle.peal.specs.Policies.{emptyPolicy, policyAt}
-use Rattle.peal.specs.Score.{scaled, presentRules, total, product, extremum, extreme, applied, scoreOf, policyScore, score, meets, decision}
+use Rattle.peal.specs.Score.{scaled, presentRules, total, product, scaledProduct, ofTwo, ofAll, applied, scoreOf, policyScore, score, meets, decision}
 use Rattle.peal.specs.Ranking.{ranksAbove, higher, placed, ranked}
 use Rattle.peal.specs.Lines.{setsInside, smallerSets, minimal, minimalSets, singles, sumAbove, productAtMost, lines}
-use Rattle.peal.specs.Translation.{joinOf, quiet, turned, maskOf, listed, translated, compiledRecords}
+use Rattle.peal.specs.Translation.{joinOf, quiet, turned, maskOf, listed, translated, listingRecords}
 
 unfoldable pub pealComputes : Unit {0}
-unfolding layoutComputes mapTree treeValue emptyPolicy policyAt scaled presentRules total product extremum extreme applied scoreOf policyScore score meets decision ranksAbove higher placed ranked setsInside smallerSets minimal minimalSets singles sumAbove productAtMost lines joinOf quiet turned maskOf listed translated compiledRecords
+unfolding layoutComputes mapTree treeValue emptyPolicy policyAt scaled presentRules total product scaledProduct ofTwo ofAll applied scoreOf policyScore score meets decision ranksAbove higher placed ranked setsInside smallerSets minimal minimalSets singles sumAbove productAtMost lines joinOf quiet turned maskOf listed translated listingRecords
 pealComputes = tt

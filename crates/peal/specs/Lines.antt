@@ -1,25 +1,25 @@
 -- The lines of a policy, as sets of its rules (document 01, "From condition to listing").
-use Prim.Native.Nat.{_^_}
 use mathlib.Core.Bool.{Bool, not, _&&_}
 use mathlib.Core.List.{List, [], _∷_, map}
-use lib.IntN.{ℤ, pos, _*ℤ_}
-use lib.ListN.{length, drop}
+use lib.Dec.{ltb}
+use lib.IntN.{ℤ}
+use lib.ListN.{length}
 use lib.Signed.{leZ, ltZ}
 use Rattle.arith.specs.Lists.{every, keep, subsets}
 use Rattle.peal.specs.Policies.{Rule}
-use Rattle.peal.specs.Score.{total, product}
+use Rattle.peal.specs.Score.{scaled, total, scaledProduct}
 use Rattle.peal.specs.Ranking.{ranked}
 use Rattle.peal.specs.declared.Operator.{Operator}
 use Rattle.peal.specs.declared.Operator.the-variants.{Min, Max, Sum, Mul}
 
--- the sets of rules among which minimal sets are sought: all inside X, X first and the empty set last.
--- Of rules in falling rank they stand in falling order of the sum of 2 to the rank.
+-- the sets inside X, among which minimal sets are sought: the empty set counts.
+-- Of rules in falling rank they stand in falling order of the sum of 2 to the rank (proofs/SetOrder.antt).
 unfoldable pub setsInside : List Rule → List (List Rule)
 setsInside X = subsets X
 
--- every set inside X but X itself
+-- the smaller sets inside X
 unfoldable pub smallerSets : List Rule → List (List Rule)
-smallerSets X = drop 1 (setsInside X)
+smallerSets X = keep (λ Y. ltb (length Y) (length X)) (setsInside X)
 
 -- X has the property, and no smaller set inside it has
 unfoldable pub minimal : (List Rule → Bool) → List Rule → Bool
@@ -37,9 +37,9 @@ singles test rules = map (λ r. r ∷ []) (keep test rules)
 unfoldable pub sumAbove : ℤ → List Rule → Bool
 sumAbove t X = ltZ t (total X)
 
--- the product in units is at most T divided by 100 (the empty set has product one unit): both sides times 100 to the number of rules and one
+-- the product in units is at most T divided by 100 (the empty set has product one unit)
 unfoldable pub productAtMost : ℤ → List Rule → Bool
-productAtMost t X = leZ (product X *ℤ pos 100) (t *ℤ pos (100 ^ length X))
+productAtMost t X = leZ (scaledProduct X) (scaled t)
 
 -- the lines of a policy under threshold T, in falling order of the sum of 2 to the rank
 unfoldable pub lines : Operator → ℤ → List Rule → List (List Rule)

@@ -20,12 +20,12 @@ pub record Policy : Type 0 where
   pub rules : List Rule
 
 -- `min(E,E)` takes the smaller of two, `max(E,E)` the larger
-pub data Extremum : Type 0 where
-  smaller larger : Extremum
+pub data MinMax : Type 0 where
+  smaller larger : MinMax
 
 -- E: mentions of policies by their numbers, joined by min and max
 abbrev pub Expression : Type 0
-Expression = Tree Extremum ℕ
+Expression = Tree MinMax ℕ
 
 -- `c T < E`, `c T >= E`
 pub record Condition : Type 0 where
@@ -38,10 +38,10 @@ pub record Book : Type 0 where
   pub policies : List Policy
   pub conditions : List Condition
 
--- a policy with no rules
+-- stands in for a policy that is not there; no condition of an accepted book mentions one
 unfoldable pub emptyPolicy : Policy
 emptyPolicy = record { operator = Min; default = pos 0; rules = [] }
 
--- the policy of a number; a book has one for each number that its conditions mention
+-- the policy of a number
 unfoldable pub policyAt : List Policy → ℕ → Policy
 policyAt ps n = getD ps n emptyPolicy

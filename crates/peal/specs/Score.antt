@@ -8,7 +8,7 @@ use lib.Signed.{leZ, ltZ}
 use Rattle.arith.specs.Lists.{keep}
 use Rattle.arith.specs.Trees.{treeValue}
 use Rattle.signals.specs.Sets.{present}
-use Rattle.peal.specs.Policies.{Rule, Policy, Extremum, smaller, larger, Expression, Condition, policyAt}
+use Rattle.peal.specs.Policies.{Rule, Policy, MinMax, smaller, larger, Expression, Condition, policyAt}
 use Rattle.peal.specs.declared.Operator.{Operator}
 use Rattle.peal.specs.declared.Operator.the-variants.{Min, Max, Sum, Mul}
 use Rattle.peal.specs.declared.Sense.{Sense}
@@ -33,22 +33,26 @@ unfoldable pub product : List Rule → ℤ
 product [] = pos 1
 product (r ∷ rs) = r .score *ℤ product rs
 
+-- the product of at most eight rules, in parts
+unfoldable pub scaledProduct : List Rule → ℤ
+scaledProduct rules = product rules *ℤ pos (100 ^ (8 - length rules))
+
 -- the smaller or the larger of two
-unfoldable pub extremum : Extremum → ℤ → ℤ → ℤ
-extremum smaller a b = cond (leZ a b) a b
-extremum larger a b = cond (leZ a b) b a
+unfoldable pub ofTwo : MinMax → ℤ → ℤ → ℤ
+ofTwo smaller a b = cond (leZ a b) a b
+ofTwo larger a b = cond (leZ a b) b a
 
 -- the smallest or the largest score of a rule and more
-unfoldable pub extreme : Extremum → Rule → List Rule → ℤ
-extreme e r [] = r .score
-extreme e r (q ∷ rs) = extremum e (r .score) (extreme e q rs)
+unfoldable pub ofAll : MinMax → Rule → List Rule → ℤ
+ofAll m r [] = r .score
+ofAll m r (q ∷ rs) = ofTwo m (r .score) (ofAll m q rs)
 
 -- the operator applied to the scores of a rule and more, in parts
 unfoldable pub applied : Operator → Rule → List Rule → ℤ
-applied Min r rs = scaled (extreme smaller r rs)
-applied Max r rs = scaled (extreme larger r rs)
+applied Min r rs = scaled (ofAll smaller r rs)
+applied Max r rs = scaled (ofAll larger r rs)
 applied Sum r rs = scaled (total (r ∷ rs))
-applied Mul r rs = product (r ∷ rs) *ℤ pos (100 ^ (8 - length (r ∷ rs)))
+applied Mul r rs = scaledProduct (r ∷ rs)
 
 -- with no rule present the default; otherwise the operator over the present rules alone
 unfoldable pub scoreOf : Policy → List Rule → ℤ
@@ -61,7 +65,7 @@ policyScore set p = scoreOf p (presentRules set (p .rules))
 
 -- the score of an expression: min and max take the smaller and the larger score
 unfoldable pub score : List Policy → ℕ → Expression → ℤ
-score ps set e = treeValue extremum (λ n. policyScore set (policyAt ps n)) e
+score ps set e = treeValue ofTwo (λ n. policyScore set (policyAt ps n)) e
 
 -- a score in parts meets the condition: T is less than it, or it is at most T
 unfoldable pub meets : Sense → ℤ → ℤ → Bool

@@ -3,11 +3,11 @@ use Prim.Native.Nat.{ℕ}
 use mathlib.Core.Bool.{Bool, true, false}
 use mathlib.Core.List.{List, map}
 use lib.IntN.{ℤ}
-use Rattle.arith.specs.Trees.{mapTree}
+use Rattle.arith.specs.Trees.{postfix, mapTree}
 use Rattle.signals.specs.Sets.{setOf}
 use Rattle.layout.specs.Records.{Record, Join, and, or}
-use Rattle.layout.specs.Nodes.{ListedPolicy, ListedTree, treeRecords}
-use Rattle.peal.specs.Policies.{Rule, Policy, Extremum, smaller, larger, Condition, policyAt}
+use Rattle.layout.specs.Nodes.{ListedPolicy, ListedTree, nodeRecords}
+use Rattle.peal.specs.Policies.{Rule, Policy, MinMax, smaller, larger, Condition, Book, policyAt}
 use Rattle.peal.specs.Score.{scaled, meets}
 use Rattle.peal.specs.Lines.{lines}
 use Rattle.peal.specs.declared.Operator.{Operator}
@@ -16,7 +16,7 @@ use Rattle.peal.specs.declared.Sense.{Sense}
 use Rattle.peal.specs.declared.Sense.the-variants.{Above, AtMost}
 
 -- for `<`, min of two sets becomes "and", max becomes "or"; for `>=` the reverse
-unfoldable pub joinOf : Sense → Extremum → Join
+unfoldable pub joinOf : Sense → MinMax → Join
 joinOf Above smaller = and
 joinOf Above larger = or
 joinOf AtMost smaller = or
@@ -55,6 +55,6 @@ listed s t p =
 unfoldable pub translated : List Policy → Condition → ListedTree
 translated ps c = mapTree (joinOf (c .sense)) (λ n. listed (c .sense) (c .threshold) (policyAt ps n)) (c .expression)
 
--- the records of a condition's listing
-unfoldable pub compiledRecords : List Policy → Condition → List Record
-compiledRecords ps c = treeRecords (translated ps c)
+-- the records of a condition's listing, from record 1 on
+unfoldable pub listingRecords : Book → Condition → List Record
+listingRecords b c = nodeRecords 1 (postfix (translated (b .policies) c))

@@ -1,8 +1,8 @@
 -- No meaning: an example that computes with the definitions of this crate and those below says `unfolding rodComputes`.
 use Rattle.arith.specs.Trees.{taken, run}
 use Rattle.layout.specs.Computing.{layoutComputes}
-use Rattle.rod.specs.Reading.{someLine, policyValue, joined, last, reading, says, rodAnswer}
+use Rattle.rod.specs.Reading.{someLine, policyValue, joined, remaining, reading, says, rodAnswer}
 
 unfoldable pub rodComputes : Unit {0}
-unfolding layoutComputes taken run someLine policyValue joined last reading says rodAnswer
+unfolding layoutComputes taken run someLine policyValue joined remaining reading says rodAnswer
 rodComputes = tt

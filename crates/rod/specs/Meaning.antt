@@ -5,7 +5,8 @@ use Rattle.layout.specs.Meaning.{faultMeaning}
 use Rattle.rod.specs.declared.Decision.{Decision}
 use Rattle.rod.specs.declared.Decision.the-variants.{Yes, No, Declined}
 
-abbrev pub decisionMeaning : Decision → Answer Bool
-decisionMeaning Yes = result true
-decisionMeaning No = result false
-decisionMeaning (Declined f) = faultMeaning f
+-- the answer of `rod::decide`
+abbrev pub rodMeaning : Decision → Answer Bool
+rodMeaning Yes = result true
+rodMeaning No = result false
+rodMeaning (Declined f) = faultMeaning f

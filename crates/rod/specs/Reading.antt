@@ -26,14 +26,14 @@ unfoldable pub joined : Join → Bool → Bool → Bool
 joined and a b = a && b
 joined or a b = a || b
 
--- the value that remains at the end
-unfoldable pub last : List Bool → Bool
-last [] = false
-last (b ∷ values) = b
+-- the one value that remains at the end
+unfoldable pub remaining : List Bool → Bool
+remaining [] = false
+remaining (b ∷ values) = b
 
 -- what some nodes say of a set
 unfoldable pub reading : List ListedNode → ℕ → Bool
-reading ns set = last (run joined (policyValue set) ns [])
+reading ns set = remaining (run joined (policyValue set) ns [])
 
 -- what the words of a sound listing say of a set
 unfoldable pub says : List ℕ → ℕ → Bool

@@ -3,13 +3,10 @@ use Prim.Native.Nat.{ℕ}
 use mathlib.Core.Bool.{Bool}
 use mathlib.Core.List.{List}
 use Rattle.answers.specs.Answers.{Answer, result, onResult}
-use Rattle.peal.specs.Policies.{Condition, Book}
+use Rattle.peal.specs.Policies.{Book}
 use Rattle.peal.specs.Score.{decision}
-use Rattle.book.specs.Books.{read, conditionAt}
+use Rattle.book.specs.Books.{asked}
 
 -- the decision of the condition of that number on a signal set
 unfoldable pub scoredAnswer : List ℕ → ℕ → ℕ → Answer Bool
-scoredAnswer bytes number set =
-    onResult (read bytes) (λ b.
-    onResult (conditionAt (b .conditions) number) (λ c.
-    result (decision (b .policies) c set)))
+scoredAnswer bytes number set = onResult (asked bytes number) (λ (b, c). result (decision (b .policies) c set))

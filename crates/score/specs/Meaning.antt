@@ -5,8 +5,9 @@ use Rattle.book.specs.Meaning.{refusalMeaning}
 use Rattle.score.specs.declared.Decision.{Decision}
 use Rattle.score.specs.declared.Decision.the-variants.{Yes, No, Refused, NoCondition}
 
-abbrev pub decisionMeaning : Decision → Answer Bool
-decisionMeaning Yes = result true
-decisionMeaning No = result false
-decisionMeaning (Refused r) = refusalMeaning r
-decisionMeaning NoCondition = refused 7 0
+-- the answer of `score::decide`
+abbrev pub scoreMeaning : Decision → Answer Bool
+scoreMeaning Yes = result true
+scoreMeaning No = result false
+scoreMeaning (Refused r) = refusalMeaning r
+scoreMeaning NoCondition = refused 7 0

@@ -1,1 +1,28 @@
-// Signal sets, as bits of a number.
+// Signal sets, as bits of a number. The functions are for the crates above.
+ghost use mathlib.Core.Bool.{_&&_};
+ghost use mathlib.Core.List.{[], _∷_};
+ghost use mathlib.Core.Path.{_≡_};
+ghost use Prim.Native.Nat.{_≤_};
+ghost use Rattle.signals.specs.Sets.{isSet, inside, overlap, setOf};
+
+// The set of one signal. The crates above have signals from 0 to 15 alone.
+pub fn bit(signal: u32) -> u32
+    requires { ⌜ signal ≤ 15 ⌝ }
+    ensures { λ r. ⌜ r ≡ setOf (signal ∷ []) ⌝ }
+{
+    1 << signal
+}
+
+// The mask is a signal set, and lies wholly inside the set.
+pub fn lies_inside(mask: u32, set: u16) -> bool
+    ensures { λ r. ⌜ r ≡ (isSet mask && inside mask set) ⌝ }
+{
+    mask & set as u32 == mask
+}
+
+// The mask shares a signal with the set.
+pub fn overlaps(mask: u32, set: u16) -> bool
+    ensures { λ r. ⌜ r ≡ overlap mask set ⌝ }
+{
+    mask & set as u32 != 0
+}

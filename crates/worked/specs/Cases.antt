@@ -1,35 +1,97 @@
--- "One book in full" and the table of "Corners held fast", each case by one computed comparison.
+-- "One book in full", and cases a to j of "Corners held fast" in the order of the table: each one computed comparison.
 use Prim.Native.Nat.{ℕ}
 use Prim.Native.String.{String, _++_}
 use mathlib.Core.Path.{_≡_, refl}
-use mathlib.Core.Bool.{true, false}
 use mathlib.Core.List.{List, [], _∷_}
+use lib.IntN.{ℤ, pos}
 use Rattle.answers.specs.Answers.{Answer, result}
 use Rattle.checks.specs.Checks.{Choice, both}
-use Rattle.worked.specs.Computing.{decides, listing, rodDecides, chooses, allCompute}
+use Rattle.peal.specs.Score.{scaled}
+use Rattle.worked.specs.Computing as W
+use Rattle.worked.specs.Computing.{listing, decides, scores, chooses, _&_, allCompute}
 
--- the policies of book A
-unfoldable pub policiesA : String
-policiesA = "p sum 0\nr 0 40\nr 1 30\nr 2 30\np min 100\nr 3 20\n"
+-- book A with the condition given
+unfoldable pub A : String → String
+A condition = "p sum 0\nr 0 40\nr 1 30\nr 2 30\np min 100\nr 3 20\n" ++ condition
 
 -- book A as printed
-unfoldable pub bookA : String
-unfolding policiesA
-bookA = policiesA ++ "c 50 < min(p0,p1)\n"
+unfoldable pub printed : String
+printed = A "c 50 < min(p0,p1)\n"
 
--- its 28 words
-full-words : listing bookA
-    ≡ result (16 ∷ 7 ∷ 2 ∷ 5
+-- the book of cases f and g with the condition given
+unfoldable pub halves : String → String
+halves condition = "p mul 100\nr 0 50\nr 1 50\n" ++ condition
+
+-- One book in full: its 28 words, and its choice.
+full-words : listing printed
+    ≡ result
+    (16 ∷ 7 ∷ 2 ∷ 5
     ∷ 4 ∷ 5 ∷ 0 ∷ 3
     ∷ 4 ∷ 3 ∷ 0 ∷ 4
     ∷ 4 ∷ 6 ∷ 0 ∷ 0
     ∷ 19 ∷ 8 ∷ 6 ∷ 7
     ∷ 4 ∷ 8 ∷ 0 ∷ 0
     ∷ 2 ∷ 0 ∷ 0 ∷ 0 ∷ [])
-unfolding bookA allCompute
+unfolding A printed allCompute
 full-words = refl
 
--- its choice
-full-choice : chooses bookA ≡ result (both 3 0)
-unfolding bookA allCompute
+full-choice : chooses printed ≡ result (both 3 0)
+unfolding A printed allCompute
 full-choice = refl
+
+-- a: A as printed, set 3: yes
+case-a : decides printed 3 ≡ W.yes
+unfolding A printed allCompute
+case-a = refl
+
+-- b: same, set 0: no
+case-b : decides printed 0 ≡ W.no
+unfolding A printed allCompute
+case-b = refl
+
+-- c: same, set 11: no, p1 scores 20
+case-c : decides printed 11 & scores printed 1 11 ≡ W.no & result (scaled (pos 20))
+unfolding A printed allCompute
+case-c = refl
+
+-- d: A, `c 60 < p0`, set 6: no
+case-d : decides (A "c 60 < p0\n") 6 ≡ W.no
+unfolding A allCompute
+case-d = refl
+
+-- e: A, `c 60 >= p0`, set 6: yes
+case-e : decides (A "c 60 >= p0\n") 6 ≡ W.yes
+unfolding A allCompute
+case-e = refl
+
+-- f: `p mul 100`, rules 0 and 1 at 50, `c 25 >= p0`, set 3: yes, one line, mask 3
+case-f : decides (halves "c 25 >= p0\n") 3 & listing (halves "c 25 >= p0\n")
+    ≡ W.yes & result (16 ∷ 3 ∷ 2 ∷ 0 ∷ 4 ∷ 3 ∷ 0 ∷ 0 ∷ [])
+unfolding halves allCompute
+case-f = refl
+
+-- g: same with 24: no, no lines
+case-g : decides (halves "c 24 >= p0\n") 3 & listing (halves "c 24 >= p0\n")
+    ≡ W.no & result (16 ∷ 3 ∷ 0 ∷ 0 ∷ [])
+unfolding halves allCompute
+case-g = refl
+
+-- h: A, `c -1 < p0`: kind 17, one line, mask 0
+case-h : listing (A "c -1 < p0\n") ≡ result (17 ∷ 7 ∷ 2 ∷ 0 ∷ 4 ∷ 0 ∷ 0 ∷ 0 ∷ [])
+unfolding A allCompute
+case-h = refl
+
+-- the book of case i: `p max -5`, rule 0 at −20, `c -10 < p0`
+unfoldable pub belowZero : String
+belowZero = "p max -5\nr 0 -20\nc -10 < p0\n"
+
+-- i: set 0 yes, set 1 no, no lines
+case-i : decides belowZero 0 & decides belowZero 1 & listing belowZero
+    ≡ W.yes & W.no & result (17 ∷ 1 ∷ 0 ∷ 0 ∷ [])
+unfolding belowZero allCompute
+case-i = refl
+
+-- j: `p min`, no rules, `c 0 < p0`: one record 18 0 0 0
+case-j : listing "p min\nc 0 < p0\n" ≡ result (18 ∷ 0 ∷ 0 ∷ 0 ∷ [])
+unfolding allCompute
+case-j = refl

@@ -3,35 +3,53 @@ use Prim.Native.Nat.{ℕ}
 use Prim.Native.String.{String}
 use mathlib.Core.Bool.{Bool}
 use mathlib.Core.List.{List}
+use lib.IntN.{ℤ}
 use lib.ListN.{replicate}
 use Rattle.answers.specs.Answers.{Answer, result, onResult}
-use Rattle.layout.specs.Records.{words}
-use Rattle.checks.specs.Checks.{Choice, choice}
 use Rattle.rod.specs.Reading.{rodAnswer}
+use Rattle.checks.specs.Checks.{Choice, choice}
+use Rattle.peal.specs.Policies.{policyAt}
+use Rattle.peal.specs.Score.{policyScore}
 use Rattle.book.specs.Text.{bytes}
+use Rattle.book.specs.Books.{read}
 use Rattle.score.specs.Decisions.{scoredAnswer}
-use Rattle.compiler.specs.Compiling.{compiled}
+use Rattle.compiler.specs.Compiling.{compiled, returned, lentAfter, compiledListing}
 use Rattle.checks.specs.Computing.{checksCompute}
 use Rattle.score.specs.Computing.{scoreComputes}
 use Rattle.compiler.specs.Computing.{compilerComputes}
 
--- the scored decision of condition 0 on a set
-unfoldable pub decides : String → ℕ → Answer Bool
-decides book set = scoredAnswer (bytes book) 0 set
-
--- the words of the listing of condition 0, with space for 4,096 records
+-- the compiled listing of condition 0, with 100 lent words
 unfoldable pub listing : String → Answer (List ℕ)
-listing book = onResult (compiled (bytes book) 0 16384) (λ rs. result (words rs))
+listing book =
+    let lent : List ℕ = replicate 100 7 in
+    let records = compiled (bytes book) 0 100 in
+    onResult (returned records) (λ count. result (compiledListing count (lentAfter lent records)))
 
--- the rod's answer on that listing and a set
-unfoldable pub rodDecides : String → ℕ → Answer Bool
-rodDecides book set = onResult (listing book) (λ ws. rodAnswer ws set)
+-- the scored decision of condition 0 on a set, and the rod's answer on its listing
+unfoldable pub decides : String → ℕ → Answer Bool × Answer Bool
+decides book set = (scoredAnswer (bytes book) 0 set, onResult (listing book) (λ ws. rodAnswer ws set))
 
--- the choice check of that listing
+-- the score of a policy on a set
+unfoldable pub scores : String → ℕ → ℕ → Answer ℤ
+scores book n set = onResult (read (bytes book)) (λ b. result (policyScore set (policyAt (b .policies) n)))
+
+-- the choice check of the listing
 unfoldable pub chooses : String → Answer Choice
 chooses book = onResult (listing book) choice
 
+-- both the logger and the rod say yes, or no
+unfoldable pub yes : Answer Bool × Answer Bool
+yes = (result Bool.true, result Bool.true)
+
+unfoldable pub no : Answer Bool × Answer Bool
+no = (result Bool.false, result Bool.false)
+
+-- two results of one case
+infixr 25 _&_
+abbrev pub _&_ : {A B : Type 0} → A → B → A × B
+a & b = (a, b)
+
 -- no meaning: a case that computes with all definitions says `unfolding allCompute`
 unfoldable pub allCompute : Unit {0}
-unfolding checksCompute scoreComputes compilerComputes decides listing rodDecides chooses
+unfolding checksCompute scoreComputes compilerComputes listing decides scores chooses yes no
 allCompute = tt

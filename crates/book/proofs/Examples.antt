@@ -1,0 +1,258 @@
+-- Computed examples of reading: a book as it is read, each refusal at its boundary, and the first of several reasons.
+use Prim.Native.Nat.{ℕ, zero, suc}
+use Prim.Native.String.{String, _++_}
+use mathlib.Core.List.{List, [], _∷_}
+use mathlib.Core.Path.{_≡_, refl}
+use lib.IntN.{ℤ, pos, negsuc}
+use lib.ListN.{replicate}
+use Rattle.answers.specs.Answers.{Answer, result, refused}
+use Rattle.arith.specs.Trees.{leaf, join}
+use Rattle.peal.specs.Policies.{Rule, Policy, smaller, Condition, Book}
+use Rattle.peal.specs.declared.Operator.the-variants.{Min, Max, Sum}
+use Rattle.peal.specs.declared.Sense.the-variants.{Above, AtMost}
+use Rattle.book.specs.Text.{bytes}
+use Rattle.book.specs.Books.{read, Counts, checked}
+use Rattle.book.specs.Computing.{bookComputes}
+
+-- what a check of a text tells
+abbrev outcome : String → Answer Counts
+outcome s = checked (bytes s)
+
+-- accepted, with so many policies and conditions
+abbrev counts : ℕ → ℕ → Answer Counts
+counts p c = result (record { policies = p; conditions = c })
+
+-- a text n times
+times : ℕ → String → String
+times zero s = ""
+times (suc n) s = s ++ times n s
+
+abbrev rule : ℕ → ℤ → Rule
+rule s v = record { signal = s; score = v }
+
+-- ---- books that are read
+
+printed-book : read (bytes "p sum 0\nr 0 40\nr 1 30\nr 2 30\np min 100\nr 3 20\nc 50 < min(p0,p1)\n")
+    ≡ result
+    (record {
+      policies =
+          record { operator = Sum; default = pos 0; rules = rule 0 (pos 40) ∷ rule 1 (pos 30) ∷ rule 2 (pos 30) ∷ [] }
+          ∷ record { operator = Min; default = pos 100; rules = rule 3 (pos 20) ∷ [] }
+          ∷ [];
+      conditions = record { sense = Above; threshold = pos 50; expression = join smaller (leaf 0) (leaf 1) } ∷ [];
+    })
+unfolding bookComputes
+printed-book = refl
+
+-- no default given means 0; numbers below zero; `>=`
+signed-book : read (bytes "p max\nr 0 -20\nc -10 >= p0\n")
+    ≡ result
+    (record {
+      policies = record { operator = Max; default = pos 0; rules = rule 0 (negsuc 19) ∷ [] } ∷ [];
+      conditions = record { sense = AtMost; threshold = negsuc 9; expression = leaf 0 } ∷ [];
+    })
+unfolding bookComputes
+signed-book = refl
+
+empty-book : outcome "" ≡ counts 0 0
+unfolding bookComputes
+empty-book = refl
+
+-- the ranges at both ends
+range-ends : outcome "p sum 10000\nr 0 0\nr 15 10000\np mul -10000\nr 0 0\nr 1 100\np max\nr 0 -10000\nr 1 10000\nc 200000 < p0\nc -200000 >= p2\n"
+    ≡ counts 3 2
+unfolding bookComputes
+range-ends = refl
+
+-- 16 mentions fill a line of 128 bytes
+nested : ℕ → String
+nested zero = "p0"
+nested (suc n) = "min(" ++ nested n ++ "," ++ nested n ++ ")"
+
+sixteen-mentions : outcome ("p sum\nc 0 < " ++ nested 4 ++ "\n") ≡ counts 1 1
+unfolding nested bookComputes
+sixteen-mentions = refl
+
+-- ---- 1: the book or a line is too long
+
+long-book : checked (replicate 8193 10) ≡ refused 1 0
+unfolding bookComputes
+long-book = refl
+
+full-book : checked (replicate 8192 10) ≡ refused 2 1
+unfolding bookComputes
+full-book = refl
+
+long-line : outcome ("p sum\nc 10 < " ++ nested 4 ++ "\n") ≡ refused 1 2
+unfolding nested bookComputes
+long-line = refl
+
+-- a line of 129 bytes with no end is refused for its length
+long-line-no-end : outcome (times 129 "x") ≡ refused 1 1
+unfolding times bookComputes
+long-line-no-end = refl
+
+full-line : outcome (times 128 "x" ++ "\n") ≡ refused 2 1
+unfolding times bookComputes
+full-line = refl
+
+-- ---- 2: no form, or no end
+
+no-end : outcome "p sum\np sum" ≡ refused 2 2
+unfolding bookComputes
+no-end = refl
+
+-- lines above come first
+no-end-later : outcome "r 0 1\np sum" ≡ refused 3 1
+unfolding bookComputes
+no-end-later = refl
+
+empty-line : outcome "p sum\n\n" ≡ refused 2 2
+unfolding bookComputes
+empty-line = refl
+
+minus-zero : outcome "p sum -0\n" ≡ refused 2 1
+unfolding bookComputes
+minus-zero = refl
+
+leading-zero : outcome "p sum 01\n" ≡ refused 2 1
+unfolding bookComputes
+leading-zero = refl
+
+seven-digits : outcome "p sum 1000000\n" ≡ refused 2 1
+unfolding bookComputes
+seven-digits = refl
+
+plus-sign : outcome "p sum +1\n" ≡ refused 2 1
+unfolding bookComputes
+plus-sign = refl
+
+two-spaces : outcome "p  sum 1\n" ≡ refused 2 1
+unfolding bookComputes
+two-spaces = refl
+
+last-space : outcome "p sum \n" ≡ refused 2 1
+unfolding bookComputes
+last-space = refl
+
+return-byte : outcome "p sum\r\n" ≡ refused 2 1
+unfolding bookComputes
+return-byte = refl
+
+five-fields : outcome "p sum\nc 5 < p0 p0\n" ≡ refused 2 2
+unfolding bookComputes
+five-fields = refl
+
+signal-with-sign : outcome "p sum\nr -1 5\n" ≡ refused 2 2
+unfolding bookComputes
+signal-with-sign = refl
+
+open-pair : outcome "p sum\nc 5 < min(p0,p0\n" ≡ refused 2 2
+unfolding bookComputes
+open-pair = refl
+
+after-pair : outcome "p sum\nc 5 < min(p0,p0))\n" ≡ refused 2 2
+unfolding bookComputes
+after-pair = refl
+
+-- ---- 3: out of place
+
+rule-first : outcome "r 0 1\n" ≡ refused 3 1
+unfolding bookComputes
+rule-first = refl
+
+rule-after-condition : outcome "p sum\nc 5 < p0\nr 0 1\n" ≡ refused 3 3
+unfolding bookComputes
+rule-after-condition = refl
+
+policy-after-condition : outcome "p sum\nc 5 < p0\np sum\n" ≡ refused 3 3
+unfolding bookComputes
+policy-after-condition = refl
+
+-- ---- 4: one too many
+
+seventeenth-policy : outcome (times 17 "p sum\n") ≡ refused 4 17
+unfolding times bookComputes
+seventeenth-policy = refl
+
+ninth-condition : outcome ("p sum\n" ++ times 9 "c 5 < p0\n") ≡ refused 4 10
+unfolding times bookComputes
+ninth-condition = refl
+
+eight-rules : String
+eight-rules = "r 0 1\nr 1 1\nr 2 1\nr 3 1\nr 4 1\nr 5 1\nr 6 1\nr 7 1\n"
+
+ninth-mul-rule : outcome ("p mul\n" ++ eight-rules ++ "r 8 1\n") ≡ refused 4 10
+unfolding eight-rules bookComputes
+ninth-mul-rule = refl
+
+ninth-sum-rule : outcome ("p sum\n" ++ eight-rules ++ "r 8 1\n") ≡ counts 1 0
+unfolding eight-rules bookComputes
+ninth-sum-rule = refl
+
+-- ---- 5: out of range, or no such policy
+
+default-too-large : outcome "p sum 10001\n" ≡ refused 5 1
+unfolding bookComputes
+default-too-large = refl
+
+default-too-small : outcome "p mul -10001\n" ≡ refused 5 1
+unfolding bookComputes
+default-too-small = refl
+
+signal-sixteen : outcome "p sum\nr 16 1\n" ≡ refused 5 2
+unfolding bookComputes
+signal-sixteen = refl
+
+negative-sum : outcome "p sum\nr 0 -1\n" ≡ refused 5 2
+unfolding bookComputes
+negative-sum = refl
+
+mul-over-unit : outcome "p mul\nr 0 101\n" ≡ refused 5 2
+unfolding bookComputes
+mul-over-unit = refl
+
+threshold-too-small : outcome "p sum\nc -200001 < p0\n" ≡ refused 5 2
+unfolding bookComputes
+threshold-too-small = refl
+
+unknown-policy : outcome "p sum\nc 5 < max(p0,min(p0,p1))\n" ≡ refused 5 2
+unfolding bookComputes
+unknown-policy = refl
+
+no-policy : outcome "c 5 < p0\n" ≡ refused 5 1
+unfolding bookComputes
+no-policy = refl
+
+-- ---- 6: a signal twice in one policy, and not in two
+
+signal-twice : outcome "p sum\nr 3 1\nr 4 1\nr 3 2\n" ≡ refused 6 4
+unfolding bookComputes
+signal-twice = refl
+
+signal-in-two : outcome "p sum\nr 3 1\np sum\nr 3 2\n" ≡ counts 2 0
+unfolding bookComputes
+signal-in-two = refl
+
+-- ---- the first of two reasons, in the order 1 to 6
+
+three-before-four : outcome (times 16 "p sum\n" ++ "c 5 < p0\np sum\n") ≡ refused 3 18
+unfolding times bookComputes
+three-before-four = refl
+
+four-before-five : outcome ("p mul\n" ++ eight-rules ++ "r 16 1\n") ≡ refused 4 10
+unfolding eight-rules bookComputes
+four-before-five = refl
+
+four-before-six : outcome ("p mul\n" ++ eight-rules ++ "r 7 1\n") ≡ refused 4 10
+unfolding eight-rules bookComputes
+four-before-six = refl
+
+five-before-six : outcome "p sum\nr 3 1\nr 3 -2\n" ≡ refused 5 3
+unfolding bookComputes
+five-before-six = refl
+
+-- an earlier line comes first, whatever its reason
+earlier-line : outcome "p sum\nr 3 1\nr 3 1\nx\n" ≡ refused 6 3
+unfolding bookComputes
+earlier-line = refl

@@ -1,0 +1,117 @@
+-- Computed examples of the verdict: each way in which a listing can be declined. The words are those of document 01's book, damaged.
+use Prim.Native.Nat.{ℕ}
+use mathlib.Core.List.{List, [], _∷_, _++_}
+use mathlib.Core.Path.{_≡_, refl}
+use lib.ListN.{take, set, replicate}
+use Rattle.answers.specs.Answers.{Answer, result, refused}
+use Rattle.layout.specs.Judgement.{verdict}
+use Rattle.layout.specs.Computing.{layoutComputes}
+
+-- the seven records as printed
+abbrev printed : List ℕ
+printed =
+    16 ∷ 7 ∷ 2 ∷ 5
+    ∷ 4 ∷ 5 ∷ 0 ∷ 3
+    ∷ 4 ∷ 3 ∷ 0 ∷ 4
+    ∷ 4 ∷ 6 ∷ 0 ∷ 0
+    ∷ 19 ∷ 8 ∷ 6 ∷ 7
+    ∷ 4 ∷ 8 ∷ 0 ∷ 0
+    ∷ 2 ∷ 0 ∷ 0 ∷ 0 ∷ []
+
+-- the verdict with word i changed
+abbrev changed : ℕ → ℕ → Answer (Unit {0})
+changed i word = verdict (set printed i word)
+
+sound-as-printed : verdict printed ≡ result tt
+unfolding layoutComputes
+sound-as-printed = refl
+
+-- 9: no words, or not a multiple of four
+no-words : verdict [] ≡ refused 9 0
+unfolding layoutComputes
+no-words = refl
+
+odd-words : verdict (take 27 printed) ≡ refused 9 0
+unfolding layoutComputes
+odd-words = refl
+
+-- 10: a policy's mask, lines and next; its number is that of the record
+policy-mask : changed 1 65543 ≡ refused 10 1
+unfolding layoutComputes
+policy-mask = refl
+
+policy-lines : changed 2 3 ≡ refused 10 1
+unfolding layoutComputes
+policy-lines = refl
+
+policy-next : changed 3 6 ≡ refused 10 1
+unfolding layoutComputes
+policy-next = refl
+
+-- a line's mask, lines and next
+line-mask : changed 9 11 ≡ refused 10 3
+unfolding layoutComputes
+line-mask = refl
+
+line-lines : changed 10 4 ≡ refused 10 3
+unfolding layoutComputes
+line-lines = refl
+
+line-next : changed 15 5 ≡ refused 10 4
+unfolding layoutComputes
+line-next = refl
+
+-- a join's mask, lines and next
+join-mask : changed 25 1 ≡ refused 10 7
+unfolding layoutComputes
+join-mask = refl
+
+join-lines : changed 26 1 ≡ refused 10 7
+unfolding layoutComputes
+join-lines = refl
+
+join-next : changed 27 8 ≡ refused 10 7
+unfolding layoutComputes
+join-next = refl
+
+-- an unknown kind breaks the layout itself; the policy above it counts it as the next node
+unknown-kind : changed 16 20 ≡ refused 10 5
+unfolding layoutComputes
+unknown-kind = refl
+
+-- a line that comes first, or after a join, breaks the layout itself, and not the record before it
+line-first : verdict (4 ∷ 0 ∷ 0 ∷ 0 ∷ []) ≡ refused 10 1
+unfolding layoutComputes
+line-first = refl
+
+line-after-join : verdict (set printed 27 8 ++ (4 ∷ 0 ∷ 0 ∷ 0 ∷ [])) ≡ refused 10 8
+unfolding layoutComputes
+line-after-join = refl
+
+-- a join without two values
+join-too-early : verdict (16 ∷ 1 ∷ 0 ∷ 2 ∷ 2 ∷ 0 ∷ 0 ∷ 0 ∷ []) ≡ refused 10 2
+unfolding layoutComputes
+join-too-early = refl
+
+-- two values left over: the number of the last record, here a line
+left-over : verdict (set (take 24 printed) 19 0) ≡ refused 10 6
+unfolding layoutComputes
+left-over = refl
+
+-- sixteen policies and fifteen joins are sound; a seventeenth policy breaks the layout
+abbrev policies : ℕ → ℕ → List ℕ
+policies n ℕ.zero = []
+policies n (ℕ.suc k) = 16 ∷ 1 ∷ 0 ∷ ℕ.suc n ∷ policies (ℕ.suc n) k
+
+abbrev joins : ℕ → ℕ → List ℕ
+joins n ℕ.zero = []
+joins n (ℕ.suc ℕ.zero) = 2 ∷ 0 ∷ 0 ∷ 0 ∷ []
+joins n (ℕ.suc (ℕ.suc k)) = 2 ∷ 0 ∷ 0 ∷ ℕ.suc n ∷ joins (ℕ.suc n) (ℕ.suc k)
+
+sixteen-policies : verdict (policies 1 16 ++ joins 17 15) ≡ result tt
+unfolding layoutComputes
+sixteen-policies = refl
+
+seventeen-policies : verdict (policies 1 17 ++ joins 18 16) ≡ refused 10 17
+unfolding layoutComputes
+seventeen-policies = refl

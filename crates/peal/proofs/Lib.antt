@@ -1,0 +1,3 @@
+pub mod SetOrder
+pub mod Equality
+pub mod Examples

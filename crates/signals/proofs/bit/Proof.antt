@@ -1,0 +1,19 @@
+-- `signals::bit`: a shift of 1 by less than the width loses no bit.
+use Prim.Native.Nat.{ℕ, _+_, _^_}
+use mathlib.Core.Path.{_∙_, ap}
+use native.Mathlib.Omega.{arith}
+use borrow.Author.Needs.{needs}
+use Rattle.arith.proofs.Bits.{bit-is}
+use Rattle.signals.specs.Sets.{setOf}
+use Rattle.signals.proofs.bit.Statement.{statement}
+use Rattle.signals.proofs.bit.Tie as tie
+
+shl-result : tie.Need-shl-result
+shl-result c = search needs
+
+returns : tie.Need-returns
+unfolding setOf
+returns c = omega (arith, bit-is (c .args .signal) 32 (omega arith))
+
+pub bit-spec : {M : Type 1} → statement M
+bit-spec = tie.close (tie.spec shl-result returns)
