@@ -3,8 +3,8 @@ use Rattle.arith.specs.Trees.{postfix}
 use Rattle.signals.specs.Computing.{signalsCompute}
 use Rattle.layout.specs.Records.{words, records, bit, lineKind, joinKind, policyKind, kindOf, isLine, kinds}
 use Rattle.layout.specs.Judgement.{ifAny, ifLine, nextNode, noRecord, insidePolicy, keepsLayout, soFarAfter, judged, lengthSound, verdict}
-use Rattle.layout.specs.Nodes.{lineRecords, nodeRecords, leadingLines, nodeThen, nodes}
+use Rattle.layout.specs.Nodes.{lineRecords, nodeRecords, listing, leadingLines, nodeThen, nodes}
 
 unfoldable pub layoutComputes : Unit {0}
-unfolding signalsCompute postfix words records bit lineKind joinKind policyKind kindOf isLine kinds ifAny ifLine nextNode noRecord insidePolicy keepsLayout soFarAfter judged lengthSound verdict lineRecords nodeRecords leadingLines nodeThen nodes
+unfolding signalsCompute postfix words records bit lineKind joinKind policyKind kindOf isLine kinds ifAny ifLine nextNode noRecord insidePolicy keepsLayout soFarAfter judged lengthSound verdict lineRecords nodeRecords listing leadingLines nodeThen nodes
 layoutComputes = tt

@@ -1,5 +1,7 @@
 pub mod Records
 pub mod Judgement
 pub mod Nodes
+pub mod WellFormed
 pub mod Meaning
+pub mod Steps
 pub mod Computing

@@ -41,6 +41,10 @@ nodeRecords n (value p ∷ ns) =
 nodeRecords n (joining j ∷ ns) =
     record { kind = joinKind j; mask = 0; lines = 0; next = ifAny ns (n + 1) } ∷ nodeRecords (n + 1) ns
 
+-- the listing of some nodes: records count from 1
+unfoldable pub listing : List ListedNode → List Record
+listing ns = nodeRecords 1 ns
+
 -- the sets of the lines that some records begin with
 unfoldable pub leadingLines : List Record → List ℕ
 leadingLines [] = []

@@ -1,4 +1,226 @@
 // The listing part: what the words of a listing must be, and which record breaks the layout first.
+// `check` is for every caller; the other public items are for the crates above.
+ghost use mathlib.Core.Path.{_≡_};
+ghost use Prim.Native.Nat.{_+_, _*_, _≤_, _<_};
+ghost use lib.ListN.{length};
+ghost use Rattle.layout.specs.Records.{kindOf, kinds};
+ghost use Rattle.layout.specs.Judgement.{ifAny, ifLine, nextNode, insidePolicy, verdict};
+ghost use Rattle.layout.specs.Meaning.{verdictMeaning};
+ghost use Rattle.layout.specs.Steps.{kindMeaning, recordMeaning, recordAt, recordsFrom, soFarMeaning, stepMeaning, policyStep, lineStep, joinStep, stepAt};
+
+// What a record is by its first word.
+pub enum Kind {
+    Line,
+    And,
+    Or,
+    Policy { quiet: bool, turned: bool },
+    Unknown,
+}
+
+pub fn kind_of(k: u32) -> Kind
+    ensures { λ r. ⌜ kindMeaning r ≡ kindOf k ⌝ }
+{
+    if k == 4 {
+        return Kind::Line;
+    }
+    if k == 2 {
+        return Kind::And;
+    }
+    if k == 3 {
+        return Kind::Or;
+    }
+    if k == 16 {
+        return Kind::Policy {
+            quiet: false,
+            turned: false,
+        };
+    }
+    if k == 17 {
+        return Kind::Policy {
+            quiet: true,
+            turned: false,
+        };
+    }
+    if k == 18 {
+        return Kind::Policy {
+            quiet: false,
+            turned: true,
+        };
+    }
+    if k == 19 {
+        return Kind::Policy {
+            quiet: true,
+            turned: true,
+        };
+    }
+    Kind::Unknown
+}
+
+// A record's four words.
+pub struct Record {
+    pub kind: u32,
+    pub mask: u32,
+    pub lines: u32,
+    pub next: u32,
+}
+
+// The record at index i, of number i + 1.
+fn record_at(words: &[u32], i: usize) -> Record
+    requires { ⌜ i * 4 + 4 ≤ length (now words) ⌝ }
+    ensures { λ r. ⌜ recordMeaning r ≡ recordAt (now (words .entry)) i ⌝ }
+{
+    let at = i * 4;
+    Record {
+        kind: words[at],
+        mask: words[at + 1],
+        lines: words[at + 2],
+        next: words[at + 3],
+    }
+}
+
+// What stands above a record: whether a line here belongs to a policy, and that policy's mask; the values to be taken;
+// the policies.
+pub struct SoFar {
+    pub owned: bool,
+    pub mask: u16,
+    pub values: usize,
+    pub policies: usize,
+}
+
+// A record keeps to the layout, and this stands above the next one; or it breaks the layout.
+pub enum Step {
+    Next(SoFar),
+    Breaks,
+}
+
+// A policy whose words must name the record `line` as its first line and `node` as the next node.
+fn policy_step(r: Record, so: SoFar, line: usize, node: usize) -> Step
+    requires { ⌜ so .values ≤ so .policies ⌝ }
+    ensures { λ s. ⌜ stepMeaning s ≡ policyStep (recordMeaning r) (soFarMeaning so) line node ⌝ }
+{
+    if r.mask > 65535 {
+        return Step::Breaks;
+    }
+    if r.lines as usize != line {
+        return Step::Breaks;
+    }
+    if r.next as usize != node {
+        return Step::Breaks;
+    }
+    if so.policies >= 16 {
+        return Step::Breaks;
+    }
+    Step::Next(SoFar {
+        owned: true,
+        mask: r.mask as u16,
+        values: so.values + 1,
+        policies: so.policies + 1,
+    })
+}
+
+// A line's set lies inside its policy's mask; where it belongs to no policy, it does not.
+fn in_policy(so: SoFar, mask: u32) -> bool
+    ensures { λ r. ⌜ r ≡ insidePolicy mask (soFarMeaning so .policyMask) ⌝ }
+{
+    if so.owned {
+        signals::lies_inside(mask, so.mask)
+    } else {
+        false
+    }
+}
+
+// A line whose words must name the record `line` as the next.
+fn line_step(r: Record, so: SoFar, line: usize) -> Step
+    ensures { λ s. ⌜ stepMeaning s ≡ lineStep (recordMeaning r) (soFarMeaning so) line ⌝ }
+{
+    if in_policy(so, r.mask) {
+        if r.lines != 0 {
+            return Step::Breaks;
+        }
+        if r.next as usize != line {
+            return Step::Breaks;
+        }
+        Step::Next(so)
+    } else {
+        Step::Breaks
+    }
+}
+
+// A join whose words must name the record `after` as the next.
+fn join_step(r: Record, so: SoFar, after: usize) -> Step
+    ensures { λ s. ⌜ stepMeaning s ≡ joinStep (recordMeaning r) (soFarMeaning so) after ⌝ }
+{
+    if r.mask != 0 {
+        return Step::Breaks;
+    }
+    if r.lines != 0 {
+        return Step::Breaks;
+    }
+    if r.next as usize != after {
+        return Step::Breaks;
+    }
+    if so.values < 2 {
+        return Step::Breaks;
+    }
+    Step::Next(SoFar {
+        owned: false,
+        mask: 0,
+        values: so.values - 1,
+        policies: so.policies,
+    })
+}
+
+// The number of the record at index i if it is there and is a line, else 0.
+fn if_line(words: &[u32], i: usize) -> usize
+    ensures { λ r. ⌜ r ≡ ifLine (kinds (recordsFrom (now (words .entry)) i)) (i + 1) ⌝ }
+{
+    if i < words.len() / 4 {
+        if words[i * 4] == 4 {
+            return i + 1;
+        }
+    }
+    0
+}
+
+// The number of the record at index i if it is there, else 0.
+fn if_any(words: &[u32], i: usize) -> usize
+    ensures { λ r. ⌜ r ≡ ifAny (kinds (recordsFrom (now (words .entry)) i)) (i + 1) ⌝ }
+{
+    if i < words.len() / 4 { i + 1 } else { 0 }
+}
+
+// The number of the first record from index `from` on that is no line, or 0 if there is none.
+fn next_node(words: &[u32], from: usize) -> usize
+    ensures { λ r. ⌜ r ≡ nextNode (from + 1) (kinds (recordsFrom (now (words .entry)) from)) ⌝ }
+{
+    let mut i = from;
+    while i < words.len() / 4 {
+        if words[i * 4] != 4 {
+            return i + 1;
+        }
+        i += 1;
+    }
+    0
+}
+
+// The judgement of the record at index i.
+fn step_at(words: &[u32], i: usize, so: SoFar) -> Step
+    requires { ⌜ (i * 4 + 4 ≤ length (now words)) × (so .values ≤ so .policies) ⌝ }
+    ensures { λ s. ⌜ stepMeaning s ≡ stepAt (now (words .entry)) i (soFarMeaning so) ⌝ }
+{
+    let r = record_at(words, i);
+    let k = kind_of(r.kind);
+    match k {
+        Kind::Line => line_step(r, so, if_line(words, i + 1)),
+        Kind::And => join_step(r, so, if_any(words, i + 1)),
+        Kind::Or => join_step(r, so, if_any(words, i + 1)),
+        Kind::Policy {
+            quiet: _,
+            turned: _,
+        } => { policy_step(r, so, if_line(words, i + 1), next_node(words, i + 1)) }
+        Kind::Unknown => Step::Breaks,
+    }
+}
 
 // Why a listing is declined.
 pub enum Fault {
@@ -12,4 +234,35 @@ pub enum Fault {
 pub enum Verdict {
     Sound,
     Declined(Fault),
+}
+
+pub fn check(words: &[u32]) -> Verdict
+    ensures { λ r. ⌜ verdictMeaning r ≡ verdict (now (words .entry)) ⌝ }
+{
+    let len = words.len();
+    if len == 0 {
+        return Verdict::Declined(Fault::Length);
+    }
+    if len % 4 != 0 {
+        return Verdict::Declined(Fault::Length);
+    }
+    let mut so = SoFar {
+        owned: false,
+        mask: 0,
+        values: 0,
+        policies: 0,
+    };
+    let mut i: usize = 0;
+    while i < len / 4 {
+        let Step::Next(next) = step_at(words, i, so) else {
+            return Verdict::Declined(Fault::Record(i + 1));
+        };
+        so = next;
+        i += 1;
+    }
+    if so.values == 1 {
+        Verdict::Sound
+    } else {
+        Verdict::Declined(Fault::Record(i))
+    }
 }

@@ -6,7 +6,7 @@ use lib.IntN.{ℤ}
 use Rattle.arith.specs.Trees.{postfix, mapTree}
 use Rattle.signals.specs.Sets.{setOf}
 use Rattle.layout.specs.Records.{Record, Join, and, or}
-use Rattle.layout.specs.Nodes.{ListedPolicy, ListedTree, nodeRecords}
+use Rattle.layout.specs.Nodes.{ListedPolicy, ListedTree, listing}
 use Rattle.peal.specs.Policies.{Rule, Policy, MinMax, smaller, larger, Condition, Book, policyAt}
 use Rattle.peal.specs.Score.{scaled, meets}
 use Rattle.peal.specs.Lines.{lines}
@@ -55,6 +55,6 @@ listed s t p =
 unfoldable pub translated : List Policy → Condition → ListedTree
 translated ps c = mapTree (joinOf (c .sense)) (λ n. listed (c .sense) (c .threshold) (policyAt ps n)) (c .expression)
 
--- the records of a condition's listing, from record 1 on
+-- the records of a condition's listing
 unfoldable pub listingRecords : Book → Condition → List Record
-listingRecords b c = nodeRecords 1 (postfix (translated (b .policies) c))
+listingRecords b c = listing (postfix (translated (b .policies) c))

@@ -1,0 +1,258 @@
+-- A sound listing is the listing of its nodes, and those are well-formed.
+use Prim.Native.Nat.{ℕ, zero, suc, _+_, _-_, _%_, _≤_}
+use mathlib.Core.Bool.{Bool, true, false, not, cond, _&&_, false≢true}
+use mathlib.Core.List.{List, [], _∷_, _++_, append-assoc, append-nil}
+use mathlib.Core.Option.{Option, none, some}
+use mathlib.Core.Path.{_≡_, refl, sym, ap, ap₂, subst, _∙_}
+use native.Mathlib.Nat.{add-zero}
+use native.Mathlib.Omega.{arith}
+use lib.Dec.{eqb, leb}
+use lib.ListN.{length}
+use borrow.Author.Tests.{eqb-true, leb-true}
+use Rattle.answers.specs.Answers.{Answer, result, refused, require}
+use Rattle.arith.specs.Trees.{leaf, join, value, joining, postfix}
+use Rattle.arith.proofs.Tests.{and-left, and-right}
+use Rattle.signals.specs.Sets.{isSet, inside}
+use Rattle.layout.specs.Records.{Record, records, words, Join, and, or, Kind, policy, line, unknown, bit, lineKind, joinKind, policyKind, kindOf, isLine, kinds}
+use Rattle.layout.specs.Judgement.{ifAny, ifLine, nextNode, SoFar, noRecord, insidePolicy, keepsLayout, soFarAfter, judged, lengthSound, verdict}
+use Rattle.layout.specs.Nodes.{ListedPolicy, ListedNode, ListedTree, lineRecords, nodeRecords, listing, leadingLines, nodeThen, nodes}
+use Rattle.layout.specs.WellFormed.{LinesFit, PolicyFits, TreeFits, policyCount, WellFormed}
+use Rattle.layout.proofs.Soundness.{no-line, any-nodes, next-nodes, line-lines, next-lines}
+
+-- ---- what a test that holds says
+
+module _ (n : ℕ) (so : SoFar) (r : Record) (after : List Kind) where
+  pub kept-line : keepsLayout n so line r after ≡ true
+      → (insidePolicy (r .mask) (so .policyMask) ≡ true) × (r .lines ≡ 0) × (r .next ≡ ifLine after (n + 1))
+  unfolding keepsLayout
+  kept-line e =
+      let ab = and-left (insidePolicy (r .mask) (so .policyMask) && eqb (r .lines) 0) (eqb (r .next) (ifLine after (n + 1))) e in (
+        and-left (insidePolicy (r .mask) (so .policyMask)) (eqb (r .lines) 0) ab,
+        eqb-true _ _ (and-right (insidePolicy (r .mask) (so .policyMask)) (eqb (r .lines) 0) ab),
+        eqb-true _ _ (and-right (insidePolicy (r .mask) (so .policyMask) && eqb (r .lines) 0) (eqb (r .next) (ifLine after (n + 1))) e),
+      )
+
+  pub kept-policy : (q t : Bool) → keepsLayout n so (policy q t) r after ≡ true
+      → (r .mask ≤ 65535) × (r .lines ≡ ifLine after (n + 1)) × (r .next ≡ nextNode (n + 1) after) × (so .policies + 1 ≤ 16)
+  unfolding keepsLayout isSet
+  kept-policy q t e =
+      let a = leb (r .mask) 65535 in
+      let b = eqb (r .lines) (ifLine after (n + 1)) in
+      let c = eqb (r .next) (nextNode (n + 1) after) in
+      let abc = and-left (a && b && c) (leb (so .policies + 1) 16) e in
+      let ab = and-left (a && b) c abc in
+      (leb-true _ _ (and-left a b ab), eqb-true _ _ (and-right a b ab), eqb-true _ _ (and-right (a && b) c abc), leb-true _ _ (and-right (a && b && c) (leb (so .policies + 1) 16) e))
+
+  pub kept-join : (j : Join) → keepsLayout n so (Kind.join j) r after ≡ true
+      → (r .mask ≡ 0) × (r .lines ≡ 0) × (r .next ≡ ifAny after (n + 1)) × (2 ≤ so .values)
+  unfolding keepsLayout
+  kept-join j e =
+      let a = eqb (r .mask) 0 in
+      let b = eqb (r .lines) 0 in
+      let c = eqb (r .next) (ifAny after (n + 1)) in
+      let abc = and-left (a && b && c) (leb 2 (so .values)) e in
+      let ab = and-left (a && b) c abc in
+      (eqb-true _ _ (and-left a b ab), eqb-true _ _ (and-right a b ab), eqb-true _ _ (and-right (a && b) c abc), leb-true _ _ (and-right (a && b && c) (leb 2 (so .values)) e))
+
+-- ---- what a kind says of its number
+
+abbrev pub Numbered : Kind → ℕ → Type 0
+Numbered line k = k ≡ lineKind
+Numbered (policy q t) k = k ≡ policyKind q t
+Numbered (Kind.join j) k = k ≡ joinKind j
+Numbered unknown k = Unit {0}
+
+pick : (P : Kind → Type 0) (k a : ℕ) (x y : Kind) → (k ≡ a → P x) → P y → P (cond (eqb k a) x y)
+pick P k a x y f g = go (eqb k a) refl
+  where
+    go : (b : Bool) → eqb k a ≡ b → P (cond b x y)
+    go true e = f (eqb-true k a e)
+    go false e = g
+
+pub numbered : (k : ℕ) → Numbered (kindOf k) k
+unfolding kindOf
+numbered k =
+    pick (λ x. Numbered x k) k lineKind _ _ (λ e. e)
+    (pick (λ x. Numbered x k) k (joinKind and) _ _ (λ e. e)
+    (pick (λ x. Numbered x k) k (joinKind or) _ _ (λ e. e)
+    (pick (λ x. Numbered x k) k (policyKind false false) _ _ (λ e. e)
+    (pick (λ x. Numbered x k) k (policyKind true false) _ _ (λ e. e)
+    (pick (λ x. Numbered x k) k (policyKind false true) _ _ (λ e. e)
+    (pick (λ x. Numbered x k) k (policyKind true true) _ _ (λ e. e)
+    tt))))))
+
+-- ---- a judgement that ends in sound
+
+-- a result under `require` had its test
+pub required : {A : Type 0} (b : Bool) (n v : ℕ) (a : Answer A) (x : A) → require b n v a ≡ result x → (b ≡ true) × (a ≡ result x)
+required true n v a x e = (refl, e)
+required false n v a x e = let z : _≡_ {A = ℕ} 0 1 = cc in absurd (omega arith)
+
+-- one step of it
+pub sound-step : (n : ℕ) (so : SoFar) (r : Record) (rest : List Record) → judged n so (r ∷ rest) ≡ result tt
+    → (keepsLayout (n + 1) so (kindOf (r .kind)) r (kinds rest) ≡ true) × (judged (n + 1) (soFarAfter so (kindOf (r .kind)) r) rest ≡ result tt)
+unfolding judged
+sound-step n so r rest h = required _ 10 (n + 1) _ tt h
+
+-- no line stands where there is no policy for it
+no-owner : (n : ℕ) (so : SoFar) (rs : List Record) → so .policyMask ≡ none → judged n so rs ≡ result tt → leadingLines rs ≡ []
+unfolding leadingLines isLine keepsLayout insidePolicy
+no-owner n so [] o h = refl
+no-owner n so (r ∷ rest) o h = go (kindOf (r .kind)) (sound-step n so r rest h .0)
+  where
+    go : (k : Kind) → keepsLayout (n + 1) so k r (kinds rest) ≡ true → cond (isLine k) (r .mask ∷ leadingLines rest) [] ≡ []
+    go line e = absurd (false≢true (rw o at e))
+    go (policy q t) e = refl
+    go (Kind.join j) e = refl
+    go unknown e = refl
+
+pub same-record : (r : Record) (k m l n : ℕ) → r .kind ≡ k → r .mask ≡ m → r .lines ≡ l → r .next ≡ n → r ≡ record { kind = k; mask = m; lines = l; next = n }
+same-record r k m l n p q s t = λ i. record { kind = p i; mask = q i; lines = s i; next = t i }
+
+-- the records from number n + 1 on are those of the lines that they begin with and of their nodes
+sound-records : (n : ℕ) (so : SoFar) (rs : List Record) → judged n so rs ≡ result tt
+    → rs ≡ lineRecords (n + 1) (leadingLines rs) ++ nodeRecords (n + 1 + length (leadingLines rs)) (nodes rs)
+unfolding leadingLines isLine nodes nodeThen keepsLayout soFarAfter lineRecords nodeRecords
+sound-records n so [] h = refl
+sound-records n so (r ∷ rest) h =
+    go (kindOf (r .kind)) (numbered (r .kind)) (sound-step n so r rest h .0) (sound-step n so r rest h .1)
+    (sound-records (n + 1) (soFarAfter so (kindOf (r .kind)) r) rest (sound-step n so r rest h .1))
+  where
+    ls : List ℕ
+    ls = leadingLines rest
+
+    m : ℕ
+    m = n + 1 + 1 + length ls
+
+    Rest : Type 0
+    Rest = rest ≡ lineRecords (n + 1 + 1) ls ++ nodeRecords m (nodes rest)
+
+    first : Rest → (k : ℕ) → ifLine (kinds rest) k ≡ ifAny ls k
+    first ih k = ap (λ (x : List Record). ifLine (kinds x) k) ih ∙ line-lines (n + 1 + 1) k ls (nodeRecords m (nodes rest)) (no-line m k (nodes rest))
+
+    go : (k : Kind) → Numbered k (r .kind) → keepsLayout (n + 1) so k r (kinds rest) ≡ true → judged (n + 1) (soFarAfter so k r) rest ≡ result tt → Rest
+        → r ∷ rest
+        ≡ lineRecords (n + 1) (cond (isLine k) (r .mask ∷ ls) [])
+        ++ nodeRecords (n + 1 + length (cond (isLine k) (r .mask ∷ ls) [])) (nodeThen k (r .mask) ls (nodes rest))
+    go unknown w e s ih = absurd (false≢true e)
+    go line w e s ih =
+        let t = kept-line (n + 1) so r (kinds rest) e in
+        ap₂ {C = List Record} (λ x y. x ∷ y)
+        (same-record r lineKind (r .mask) 0 (ifAny ls (n + 1 + 1)) w refl (t .1) (t .2 ∙ first ih (n + 1 + 1)))
+        (ih ∙ ap (λ (i : ℕ). lineRecords (n + 1 + 1) ls ++ nodeRecords i (nodes rest)) (omega arith))
+    go (policy q u) w e s ih =
+        let t = kept-policy (n + 1) so r (kinds rest) q u e in
+        rw add-zero
+        (ap₂ {C = List Record} (λ x y. x ∷ y)
+        (same-record r _ (r .mask) (ifAny ls (n + 1 + 1)) (ifAny (nodes rest) m) w refl (t .1 ∙ first ih (n + 1 + 1))
+        (t .2 ∙ ap (λ (x : List Record). nextNode (n + 1 + 1) (kinds x)) ih
+        ∙ next-lines (n + 1 + 1) (n + 1 + 1) ls (nodeRecords m (nodes rest)) ∙ next-nodes m m (nodes rest)))
+        ih)
+    go (Kind.join j) w e s ih =
+        let t = kept-join (n + 1) so r (kinds rest) j e in
+        let o : leadingLines rest ≡ [] = no-owner (n + 1) _ rest refl s in
+        let ih′ : rest ≡ nodeRecords (n + 1 + 1) (nodes rest) =
+        subst (λ (x : List ℕ). rest ≡ lineRecords (n + 1 + 1) x ++ nodeRecords (n + 1 + 1 + length x) (nodes rest)) o ih
+        ∙ ap (λ (i : ℕ). nodeRecords i (nodes rest)) (add-zero (n + 1 + 1)) in
+        rw add-zero
+        (ap₂ {C = List Record} (λ x y. x ∷ y)
+        (same-record r (joinKind j) 0 0 (ifAny (nodes rest) (n + 1 + 1)) w (t .0) (t .1)
+        (t .2 ∙ ap (λ (x : List Record). ifAny (kinds x) (n + 1 + 1)) ih′ ∙ any-nodes (n + 1 + 1) (n + 1 + 1) (nodes rest)))
+        ih′)
+
+words-records : (ws : List ℕ) → length ws % 4 ≡ 0 → words (records ws) ≡ ws
+unfolding words records
+words-records [] h = refl
+words-records (k ∷ []) h = absurd (omega arith)
+words-records (k ∷ m ∷ []) h = absurd (omega arith)
+words-records (k ∷ m ∷ l ∷ []) h = absurd (omega arith)
+words-records (k ∷ m ∷ l ∷ n ∷ ws) h = ap {B = List ℕ} (λ x. k ∷ m ∷ l ∷ n ∷ x) (words-records ws (omega arith))
+
+-- sound words are whole records, whose judgement ends in sound
+pub sound-judged : (ws : List ℕ) → verdict ws ≡ result tt → (length ws % 4 ≡ 0) × (judged 0 noRecord (records ws) ≡ result tt)
+unfolding verdict lengthSound
+sound-judged ws h =
+    let s = required _ 9 0 _ tt h in
+    (eqb-true _ _ (and-right (not (eqb (length ws) 0)) (eqb (length ws % 4) 0) (s .0)), s .1)
+
+-- a sound listing is the listing of its nodes
+pub sound-listing : (ws : List ℕ) → verdict ws ≡ result tt → ws ≡ words (listing (nodes (records ws)))
+unfolding listing noRecord lineRecords
+sound-listing ws h =
+    let w = sound-judged ws h in
+    let o : leadingLines (records ws) ≡ [] = no-owner 0 noRecord (records ws) refl (w .1) in
+    sym (words-records ws (w .0))
+    ∙ ap words (subst (λ (x : List ℕ). records ws ≡ lineRecords 1 x ++ nodeRecords (1 + length x) (nodes (records ws))) o (sound-records 0 noRecord (records ws) (w .1)))
+
+-- the lines after a policy lie inside its mask
+lines-fit : (n m : ℕ) (so : SoFar) (rs : List Record) → so .policyMask ≡ some m → judged n so rs ≡ result tt → LinesFit m (leadingLines rs)
+unfolding leadingLines isLine soFarAfter insidePolicy isSet
+lines-fit n m so [] o h = tt
+lines-fit n m so (r ∷ rest) o h = go (kindOf (r .kind)) (sound-step n so r rest h .0) (sound-step n so r rest h .1) (λ so′ o′ h′. lines-fit (n + 1) m so′ rest o′ h′)
+  where
+    go : (k : Kind) → keepsLayout (n + 1) so k r (kinds rest) ≡ true → judged (n + 1) (soFarAfter so k r) rest ≡ result tt
+        → ((so′ : SoFar) → so′ .policyMask ≡ some m → judged (n + 1) so′ rest ≡ result tt → LinesFit m (leadingLines rest))
+        → LinesFit m (cond (isLine k) (r .mask ∷ leadingLines rest) [])
+    go line e s ih =
+        let t = rw o at (kept-line (n + 1) so r (kinds rest) e .0) in
+        (leb-true _ _ (and-left (leb (r .mask) 65535) (inside (r .mask) m) t), and-right (leb (r .mask) 65535) (inside (r .mask) m) t, ih so o s)
+    go (policy q u) e s ih = tt
+    go (Kind.join j) e s ih = tt
+    go unknown e s ih = tt
+
+-- the nodes of a judgement that ends in sound are well-formed
+pub sound-well-formed : (n : ℕ) (so : SoFar) (rs : List Record) → judged n so rs ≡ result tt → WellFormed (so .values) (so .policies) (nodes rs)
+unfolding nodes nodeThen soFarAfter judged
+sound-well-formed n so [] h = eqb-true _ _ (required (eqb (so .values) 1) 10 n (result tt) tt h .0)
+sound-well-formed n so (r ∷ rest) h = go (kindOf (r .kind)) (sound-step n so r rest h .0) (sound-step n so r rest h .1) (λ so′ h′. sound-well-formed (n + 1) so′ rest h′)
+  where
+    go : (k : Kind) → keepsLayout (n + 1) so k r (kinds rest) ≡ true → judged (n + 1) (soFarAfter so k r) rest ≡ result tt
+        → ((so′ : SoFar) → judged (n + 1) so′ rest ≡ result tt → WellFormed (so′ .values) (so′ .policies) (nodes rest))
+        → WellFormed (so .values) (so .policies) (nodeThen k (r .mask) (leadingLines rest) (nodes rest))
+    go line e s ih = ih so s
+    go (policy q u) e s ih =
+        let t = kept-policy (n + 1) so r (kinds rest) q u e in
+        (record { maskFits = t .0; linesFit = lines-fit (n + 1) (r .mask) _ rest refl s }, t .3, ih _ s)
+    go (Kind.join j) e s ih = (kept-join (n + 1) so r (kinds rest) j e .3, ih _ s)
+    go unknown e s ih = ih so s
+
+-- ---- trees
+
+-- the trees whose values are to be taken, the last first: their nodes, whether they fit, and how many policies they have
+abbrev stacked : List ListedTree → List ListedNode
+stacked [] = []
+stacked (t ∷ ts) = stacked ts ++ postfix t
+
+abbrev AllFit : List ListedTree → Type 0
+AllFit [] = Unit {0}
+AllFit (t ∷ ts) = TreeFits t × AllFit ts
+
+abbrev policiesIn : List ListedTree → ℕ
+policiesIn [] = 0
+policiesIn (t ∷ ts) = policiesIn ts + policyCount t
+
+-- a tree that fits, of at most 16 policies, with these nodes
+pub record TreeOf (ns : List ListedNode) : Type 0 where
+  pub tree : ListedTree
+  pub fits : TreeFits tree
+  pub atMost : policyCount tree ≤ 16
+  pub same : ns ≡ postfix tree
+
+grow : (ns : List ListedNode) (ts : List ListedTree) (v p : ℕ) → length ts ≡ v → policiesIn ts ≡ p → p ≤ 16 → AllFit ts → WellFormed v p ns → TreeOf (stacked ts ++ ns)
+unfolding postfix policyCount
+grow [] [] v p el ep le g h = absurd (omega arith)
+grow [] (t ∷ []) v p el ep le g h = record { tree = t; fits = g .0; atMost = omega arith; same = append-nil (postfix t) }
+grow [] (t ∷ s ∷ ts) v p el ep le g h = absurd (omega arith)
+grow (value q ∷ ns) ts v p el ep le g h =
+    let r = grow ns (leaf q ∷ ts) (v + 1) (p + 1) (omega arith) (omega arith) (h .1) (h .0, g) (h .2) in
+    subst TreeOf (append-assoc (stacked ts) (value q ∷ []) ns) r
+grow (joining j ∷ ns) [] v p el ep le g h = absurd (omega (arith, h .0))
+grow (joining j ∷ ns) (b ∷ []) v p el ep le g h = absurd (omega (arith, h .0))
+grow (joining j ∷ ns) (b ∷ a ∷ ts) v p el ep le g h =
+    let t = grow ns (join j a b ∷ ts) (v - 1) p (omega arith) (omega arith) le ((g .1 .0, g .0), g .1 .1) (h .1) in
+    subst TreeOf (simp append-assoc) t
+
+-- the nodes of a sound listing are those of a tree that fits
+pub sound-tree : (ws : List ℕ) → verdict ws ≡ result tt → TreeOf (nodes (records ws))
+unfolding noRecord
+sound-tree ws h = grow (nodes (records ws)) [] 0 0 refl refl (omega arith) tt (sound-well-formed 0 noRecord (records ws) (sound-judged ws h .1))

@@ -1,0 +1,88 @@
+-- `layout::check`: the judged from here on is the verdict.
+use borrow.Author.Needs.{needs}
+use native.Mathlib.Omega.{arith}
+use Prim.Native.Nat.{_-_, _/_, _≤_}
+use mathlib.Core.Path.{_≡_, refl, sym, ap, _∙_}
+use lib.ListN.{length}
+use Rattle.layout.specs.Judgement.{judged, verdict, noRecord}
+use Rattle.layout.specs.Steps.{soFarMeaning, stepMeaning, recordsFrom}
+use Rattle.layout.proofs.Judging.{judged-on, judged-stop, judged-sound, judged-left, no-words, not-whole, whole, step-values}
+use Rattle.layout.proofs.check.Statement.{statement}
+use Rattle.layout.proofs.check.Tie as tie
+
+abbrev Inv-loop : tie.InvT-loop
+Inv-loop words len so₀ i₀ so i = (so .values ≤ so .policies) × (judged i (soFarMeaning so) (recordsFrom words i) ≡ verdict words)
+
+abbrev μ-loop : tie.MeasureT-loop
+μ-loop words len so₀ i₀ so i = length words / 4 - i
+
+returns : tie.Need-returns Inv-loop μ-loop
+returns c = no-words _ (omega arith)
+
+returns-2 : tie.Need-returns-2 Inv-loop μ-loop
+returns-2 c = not-whole _ (omega arith) (omega arith)
+
+loop-holds : tie.Need-loop-holds Inv-loop μ-loop
+unfolding noRecord
+loop-holds c = (omega arith, whole _ (omega arith) (omega arith))
+
+step-at-requires : tie.Need-step-at-requires Inv-loop μ-loop
+step-at-requires c κs = search needs
+
+enum-known-next : tie.Need-enum-known-next Inv-loop μ-loop
+enum-known-next c = search needs
+
+enum-told : tie.Need-enum-told Inv-loop μ-loop
+enum-told c = search needs
+
+add-t13 : tie.Need-add-t13 Inv-loop μ-loop
+add-t13 c = search needs
+
+returns-3 : tie.Need-returns-3 Inv-loop μ-loop
+returns-3 c =
+    let a = c .before .before in
+    let l = a .before .before in
+    sym (judged-stop _ _ _ (omega arith) (sym (ap stepMeaning (c .enum-told .given .1)) ∙ a .step-at .ensures)) ∙ l .loop .inv .1
+
+add-i : tie.Need-add-i Inv-loop μ-loop
+add-i c = search needs
+
+loop-less : tie.Need-loop-less Inv-loop μ-loop
+loop-less c = search needs
+
+loop-again : tie.Need-loop-again Inv-loop μ-loop
+loop-again c =
+    let a = c .before .before .before in
+    let l = a .before .before in
+    let e = sym (ap stepMeaning (c .before .next .given .1)) ∙ a .step-at .ensures in
+    (step-values _ _ _ _ (l .loop .inv .0) e, sym (judged-on _ _ _ (omega arith) _ e) ∙ l .loop .inv .1)
+
+returns-4 : tie.Need-returns-4 Inv-loop μ-loop
+returns-4 c =
+    let l = c .before .before .before in
+    sym (judged-sound _ _ _ (omega arith) (c .if3 .taken)) ∙ l .loop .inv .1
+
+returns-5 : tie.Need-returns-5 Inv-loop μ-loop
+returns-5 c =
+    let l = c .before .before .before in
+    sym (judged-left _ _ _ (omega arith) (c .if3 .left)) ∙ l .loop .inv .1
+
+pub check-spec : {M : Type 1} → statement M
+check-spec =
+    tie.close
+    (tie.spec
+    Inv-loop
+    μ-loop
+    returns
+    returns-2
+    loop-holds
+    step-at-requires
+    enum-known-next
+    enum-told
+    add-t13
+    returns-3
+    add-i
+    loop-less
+    loop-again
+    returns-4
+    returns-5)

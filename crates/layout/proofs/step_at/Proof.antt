@@ -1,0 +1,133 @@
+-- `layout::step_at`: the parts together are a step of the judged.
+use native.Mathlib.Omega.{arith}
+use mathlib.Core.Path.{_≡_, refl, sym, ap, _∙_}
+use Rattle.layout.specs.Records.{and, or}
+use Rattle.layout.specs.Steps.{kindMeaning}
+use Rattle.layout.proofs.Judging.{step-line, step-join, step-policy, step-unknown}
+use borrow.Author.Needs.{needs}
+use Rattle.layout.proofs.step_at.Statement.{statement}
+use Rattle.layout.proofs.step_at.Tie as tie
+
+record-at-requires : tie.Need-record-at-requires
+record-at-requires c κs = search needs
+
+kind-of-requires : tie.Need-kind-of-requires
+kind-of-requires c κs = search needs
+
+enum-told : tie.Need-enum-told
+enum-told c = search needs
+
+add-if-line : tie.Need-add-if-line
+add-if-line c = search needs
+
+if-line-requires : tie.Need-if-line-requires
+if-line-requires c κs = search needs
+
+line-step-requires : tie.Need-line-step-requires
+line-step-requires c κs = search needs
+
+enum-told-2 : tie.Need-enum-told-2
+enum-told-2 c = search needs
+
+add-if-any : tie.Need-add-if-any
+add-if-any c = search needs
+
+if-any-requires : tie.Need-if-any-requires
+if-any-requires c κs = search needs
+
+join-step-requires : tie.Need-join-step-requires
+join-step-requires c κs = search needs
+
+enum-told-3 : tie.Need-enum-told-3
+enum-told-3 c = search needs
+
+add-if-any-2 : tie.Need-add-if-any-2
+add-if-any-2 c = search needs
+
+if-any-requires-2 : tie.Need-if-any-requires-2
+if-any-requires-2 c κs = search needs
+
+join-step-requires-2 : tie.Need-join-step-requires-2
+join-step-requires-2 c κs = search needs
+
+enum-told-4 : tie.Need-enum-told-4
+enum-told-4 c = search needs
+
+add-if-line-2 : tie.Need-add-if-line-2
+add-if-line-2 c = search needs
+
+if-line-requires-2 : tie.Need-if-line-requires-2
+if-line-requires-2 c κs = search needs
+
+add-next-node : tie.Need-add-next-node
+add-next-node c = search needs
+
+next-node-requires : tie.Need-next-node-requires
+next-node-requires c κs = search needs
+
+policy-step-requires : tie.Need-policy-step-requires
+policy-step-requires c κs = search needs
+
+enum-told-5 : tie.Need-enum-told-5
+enum-told-5 c = search needs
+
+returns : tie.Need-returns
+returns c =
+    let e = c .before .before in
+    let k = e .before .before in
+    step-line _ _ _ _ _ _ (k .before .record-at .ensures) (k .kind-of .ensures) (ap kindMeaning (e .enum-told .given .1)) _ (c .before .if-line .ensures) (c .line-step .ensures)
+
+returns-2 : tie.Need-returns-2
+returns-2 c =
+    let e = c .before .before in
+    let k = e .before .before in
+    step-join _ _ _ _ _ _ (k .before .record-at .ensures) (k .kind-of .ensures) and (ap kindMeaning (e .enum-told2 .given .1)) _ (c .before .if-any .ensures) (c .join-step .ensures)
+
+returns-3 : tie.Need-returns-3
+returns-3 c =
+    let e = c .before .before in
+    let k = e .before .before in
+    step-join _ _ _ _ _ _ (k .before .record-at .ensures) (k .kind-of .ensures) or (ap kindMeaning (e .enum-told3 .given .1)) _ (c .before .if-any2 .ensures) (c .join-step2 .ensures)
+
+returns-4 : tie.Need-returns-4
+returns-4 c =
+    let e = c .before .before .before in
+    let k = e .before .before in
+    step-policy _ _ _ _ _ _ (k .before .record-at .ensures) (k .kind-of .ensures) _ _ (ap kindMeaning (e .enum-told4 .given .1)) _ _
+    (c .before .before .if-line2 .ensures) (c .before .next-node .ensures) (c .policy-step .ensures)
+
+returns-5 : tie.Need-returns-5
+returns-5 c =
+    let k = c .before .before in
+    step-unknown _ _ _ _ _ _ (k .before .record-at .ensures) (k .kind-of .ensures) (ap kindMeaning (c .enum-told5 .given .1)) refl
+
+pub step-at-spec : {M : Type 1} → statement M
+step-at-spec =
+    tie.close
+    (tie.spec
+    record-at-requires
+    kind-of-requires
+    enum-told
+    add-if-line
+    if-line-requires
+    line-step-requires
+    enum-told-2
+    add-if-any
+    if-any-requires
+    join-step-requires
+    enum-told-3
+    add-if-any-2
+    if-any-requires-2
+    join-step-requires-2
+    enum-told-4
+    add-if-line-2
+    if-line-requires-2
+    add-next-node
+    next-node-requires
+    policy-step-requires
+    enum-told-5
+    returns
+    returns-2
+    returns-3
+    returns-4
+    returns-5)

@@ -1,0 +1,74 @@
+-- What the code's own values mean, and one step of the judgement as the code takes it.
+use Prim.Native.Nat.{ℕ, _+_, _*_, _-_}
+use mathlib.Core.Bool.{Bool, true, false, cond, _&&_}
+use mathlib.Core.List.{List}
+use mathlib.Core.Option.{Option, none, some}
+use lib.Dec.{eqb, leb}
+use lib.ListN.{getD, drop}
+use Rattle.signals.specs.Sets.{isSet}
+use Rattle.layout.specs.Records
+use Rattle.layout.specs.Records.{records, kindOf, kinds}
+use Rattle.layout.specs.Judgement
+use Rattle.layout.specs.Judgement.{insidePolicy, keepsLayout, soFarAfter}
+use Rattle.layout.specs.declared.Kind.{Kind}
+use Rattle.layout.specs.declared.Kind.the-variants.{Line, And, Or, Policy, Unknown}
+use Rattle.layout.specs.declared.Record.{Record}
+use Rattle.layout.specs.declared.SoFar.{SoFar}
+use Rattle.layout.specs.declared.Step.{Step}
+use Rattle.layout.specs.declared.Step.the-variants.{Next, Breaks}
+
+-- a kind
+abbrev pub kindMeaning : Kind → Records.Kind
+kindMeaning Line = Records.Kind.line
+kindMeaning And = Records.Kind.join Records.Join.and
+kindMeaning Or = Records.Kind.join Records.Join.or
+kindMeaning (Policy q t) = Records.Kind.policy q t
+kindMeaning Unknown = Records.Kind.unknown
+
+-- a record
+abbrev pub recordMeaning : Record → Records.Record
+recordMeaning r = record { kind = r .kind; mask = r .mask; lines = r .lines; next = r .next }
+
+-- the record at index i of some words, of number i + 1
+abbrev pub recordAt : List ℕ → ℕ → Records.Record
+recordAt ws i = record { kind = getD ws (i * 4) 0; mask = getD ws (i * 4 + 1) 0; lines = getD ws (i * 4 + 2) 0; next = getD ws (i * 4 + 3) 0 }
+
+-- the records from index i on
+unfoldable pub recordsFrom : List ℕ → ℕ → List Records.Record
+recordsFrom ws i = drop i (records ws)
+
+-- the mask of the policy that a line belongs to
+abbrev pub owner : Bool → ℕ → Option ℕ
+owner true mask = some mask
+owner false mask = none
+
+-- what stands above a record
+abbrev pub soFarMeaning : SoFar → Judgement.SoFar
+soFarMeaning so = record { policyMask = owner (so .owned) (so .mask); values = so .values; policies = so .policies }
+
+-- a step: what stands above the next record, or nothing where the record breaks the layout
+abbrev pub stepMeaning : Step → Option Judgement.SoFar
+stepMeaning (Next so) = some (soFarMeaning so)
+stepMeaning Breaks = none
+
+-- one step by kind, from the numbers that the record's words must have
+unfoldable pub policyStep : Records.Record → Judgement.SoFar → ℕ → ℕ → Option Judgement.SoFar
+policyStep r so line node =
+    cond (isSet (r .mask) && eqb (r .lines) line && eqb (r .next) node && leb (so .policies + 1) 16)
+    (some (record { policyMask = some (r .mask); values = so .values + 1; policies = so .policies + 1 })) none
+
+unfoldable pub lineStep : Records.Record → Judgement.SoFar → ℕ → Option Judgement.SoFar
+lineStep r so line = cond (insidePolicy (r .mask) (so .policyMask) && eqb (r .lines) 0 && eqb (r .next) line) (some so) none
+
+unfoldable pub joinStep : Records.Record → Judgement.SoFar → ℕ → Option Judgement.SoFar
+joinStep r so after =
+    cond (eqb (r .mask) 0 && eqb (r .lines) 0 && eqb (r .next) after && leb 2 (so .values))
+    (some (record { policyMask = none; values = so .values - 1; policies = so .policies })) none
+
+-- one step over record n
+unfoldable pub stepOf : ℕ → Judgement.SoFar → Records.Kind → Records.Record → List Records.Kind → Option Judgement.SoFar
+stepOf n so k r after = cond (keepsLayout n so k r after) (some (soFarAfter so k r)) none
+
+-- one step over the record at index i
+unfoldable pub stepAt : List ℕ → ℕ → Judgement.SoFar → Option Judgement.SoFar
+stepAt ws i so = stepOf (i + 1) so (kindOf (getD ws (i * 4) 0)) (recordAt ws i) (kinds (recordsFrom ws (i + 1)))

@@ -1,0 +1,34 @@
+-- The nodes that a sound listing holds.
+use Prim.Native.Nat.{ℕ, _+_, _-_, _≤_}
+use mathlib.Core.Bool.{true}
+use mathlib.Core.List.{List, [], _∷_}
+use mathlib.Core.Path.{_≡_}
+use Rattle.arith.specs.Trees.{Tree, leaf, join, value, joining}
+use Rattle.signals.specs.Sets.{inside}
+use Rattle.layout.specs.Nodes.{ListedPolicy, ListedNode, ListedTree}
+
+-- each line is a signal set inside the mask
+abbrev pub LinesFit : ℕ → List ℕ → Type 0
+LinesFit mask [] = Unit {0}
+LinesFit mask (l ∷ ls) = (l ≤ 65535) × (inside l mask ≡ true) × LinesFit mask ls
+
+-- the policy's mask is a signal set, and its lines lie inside it
+pub record PolicyFits (p : ListedPolicy) : Type 0 where
+  pub maskFits : p .mask ≤ 65535
+  pub linesFit : LinesFit (p .mask) (p .lines)
+
+-- every policy of the tree fits
+abbrev pub TreeFits : ListedTree → Type 0
+TreeFits (leaf p) = PolicyFits p
+TreeFits (join j a b) = TreeFits a × TreeFits b
+
+-- how many policies the tree has
+unfoldable pub policyCount : ListedTree → ℕ
+policyCount (leaf p) = 1
+policyCount (join j a b) = policyCount a + policyCount b
+
+-- below v values and p policies these nodes fit, have no join without two values and no seventeenth policy, and leave one value
+abbrev pub WellFormed : ℕ → ℕ → List ListedNode → Type 0
+WellFormed v p [] = v ≡ 1
+WellFormed v p (value q ∷ ns) = PolicyFits q × (p + 1 ≤ 16) × WellFormed (v + 1) (p + 1) ns
+WellFormed v p (joining j ∷ ns) = (2 ≤ v) × WellFormed (v - 1) p ns
