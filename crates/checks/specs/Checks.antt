@@ -7,10 +7,12 @@ use Rattle.answers.specs.Answers.{Answer, result, refused, onResult}
 use Rattle.layout.specs.Judgement.{verdict}
 use Rattle.rod.specs.Reading.{says}
 
--- the lowest of the `count` numbers from `from` on that passes the test, if there is one
+-- the lowest of the `count` numbers from `from` on that passes the test, if there is one (`later` has a name so that it computes only if needed)
 unfoldable pub lowestFrom : ℕ → ℕ → (ℕ → Bool) → Option ℕ
 lowestFrom zero from test = none
-lowestFrom (suc count) from test = cond (test from) (some from) (lowestFrom count (from + 1) test)
+lowestFrom (suc count) from test =
+    let later = lowestFrom count (from + 1) test in
+    cond (test from) (some from) later
 
 -- the lowest of all 65,536 signal sets that passes the test, if there is one
 unfoldable pub lowestSet : (ℕ → Bool) → Option ℕ

@@ -95,7 +95,7 @@ unfolding judged
 sound-step n so r rest h = required _ 10 (n + 1) _ tt h
 
 -- no line stands where there is no policy for it
-no-owner : (n : ℕ) (so : SoFar) (rs : List Record) → so .policyMask ≡ none → judged n so rs ≡ result tt → leadingLines rs ≡ []
+pub no-owner : (n : ℕ) (so : SoFar) (rs : List Record) → so .policyMask ≡ none → judged n so rs ≡ result tt → leadingLines rs ≡ []
 unfolding leadingLines isLine keepsLayout insidePolicy
 no-owner n so [] o h = refl
 no-owner n so (r ∷ rest) o h = go (kindOf (r .kind)) (sound-step n so r rest h .0)
@@ -185,7 +185,7 @@ sound-listing ws h =
     ∙ ap words (subst (λ (x : List ℕ). records ws ≡ lineRecords 1 x ++ nodeRecords (1 + length x) (nodes (records ws))) o (sound-records 0 noRecord (records ws) (w .1)))
 
 -- the lines after a policy lie inside its mask
-lines-fit : (n m : ℕ) (so : SoFar) (rs : List Record) → so .policyMask ≡ some m → judged n so rs ≡ result tt → LinesFit m (leadingLines rs)
+pub lines-fit : (n m : ℕ) (so : SoFar) (rs : List Record) → so .policyMask ≡ some m → judged n so rs ≡ result tt → LinesFit m (leadingLines rs)
 unfolding leadingLines isLine soFarAfter insidePolicy isSet
 lines-fit n m so [] o h = tt
 lines-fit n m so (r ∷ rest) o h = go (kindOf (r .kind)) (sound-step n so r rest h .0) (sound-step n so r rest h .1) (λ so′ o′ h′. lines-fit (n + 1) m so′ rest o′ h′)

@@ -1,3 +1,4 @@
 pub mod Reading
 pub mod Meaning
+pub mod Values
 pub mod Computing

@@ -1,4 +1,113 @@
 // The rod: what a listing says of a signal set. It knows the listing part and nothing of books.
+// `decide` is for every caller; `reading` is for the crates above.
+ghost use mathlib.Core.Bool.{Bool};
+ghost use mathlib.Core.List.{List, _∷_};
+ghost use mathlib.Core.Path.{_≡_};
+ghost use Prim.Native.Nat.{_+_, _*_, _/_, _≤_, _<_};
+ghost use lib.ListN.{length};
+ghost use Rattle.answers.specs.Answers.{result};
+ghost use Rattle.layout.specs.Judgement.{verdict};
+ghost use Rattle.layout.specs.Nodes.{leadingLines};
+ghost use Rattle.layout.specs.Steps.{recordsFrom};
+ghost use Rattle.rod.specs.Reading.{someLine, policyValue, joined, says, rodAnswer};
+ghost use Rattle.rod.specs.Meaning.{rodMeaning};
+ghost use Rattle.rod.specs.Values.{bitsOf, joinMeaning, AllSets, policyAt, nodeEnd, NodeAt, Underway};
+
+// Some line of the records from index `from` up to `end`, all of them lines, lies wholly inside the set.
+fn some_line(words: &[u32], from: usize, end: usize, set: u16) -> bool
+    requires { ⌜ (end ≡ from + length (leadingLines (recordsFrom (now words) from))) × AllSets (leadingLines (recordsFrom (now words) from)) ⌝ }
+    ensures { λ r. ⌜ r ≡ someLine (leadingLines (recordsFrom (now (words .entry)) from)) set ⌝ }
+{
+    let present = set as u32;
+    let mut i = from;
+    while i < end {
+        let line = words[i * 4 + 1];
+        if line & present == line {
+            return true;
+        }
+        i += 1;
+    }
+    false
+}
+
+// What the policy at index `at` says of the set; its lines end before index `end`.
+fn policy_value(words: &[u32], at: usize, end: usize, quiet: bool, turned: bool, set: u16) -> bool
+    requires { ⌜ (at < length (now words) / 4) × (end ≡ nodeEnd (now words) at) × AllSets (leadingLines (recordsFrom (now words) (at + 1))) ⌝ }
+    ensures { λ r. ⌜ r ≡ policyValue set (policyAt (now (words .entry)) at quiet turned) ⌝ }
+{
+    if signals::overlaps(words[at * 4 + 1], set) {
+        let found = some_line(words, at + 1, end, set);
+        if turned { !found } else { found }
+    } else {
+        quiet
+    }
+}
+
+// One value more. Values are kept as bits, the last in the lowest bit.
+fn with_value(values: u32, value: bool) -> u32
+    requires { ⌜ values ≤ 65535 ⌝ }
+    ensures { λ r. ⌜ ((s : List Bool) → values ≡ bitsOf s → r ≡ bitsOf (value ∷ s)) ⌝ }
+{
+    if value { values * 2 + 1 } else { values * 2 }
+}
+
+// The last two values joined into one.
+fn with_join(values: u32, or: bool) -> u32
+    ensures { λ r. ⌜ ((a b : Bool) (s : List Bool) → values ≡ bitsOf (b ∷ a ∷ s) → r ≡ bitsOf (joined (joinMeaning or) a b ∷ s)) ⌝ }
+{
+    let yes = values % 2 + values / 2 % 2;
+    let rest = values / 4 * 2;
+    if or {
+        if yes == 0 { rest } else { rest + 1 }
+    } else {
+        if yes == 2 { rest + 1 } else { rest }
+    }
+}
+
+// The index of the node after the one at index `at`: its `next` leads over its lines.
+fn next_index(words: &[u32], at: usize) -> usize
+    requires { ⌜ (at < length (now words) / 4) × NodeAt (now words) at ⌝ }
+    ensures { λ r. ⌜ r ≡ nodeEnd (now (words .entry)) at ⌝ }
+{
+    let next = words[at * 4 + 3];
+    if next == 0 {
+        words.len() / 4
+    } else {
+        next as usize - 1
+    }
+}
+
+// The values after the node at index `at`.
+fn after_node(words: &[u32], at: usize, end: usize, set: u16, values: u32) -> u32
+    requires { ⌜ (at < length (now words) / 4) × (end ≡ nodeEnd (now words) at) × Underway (now words) set at values ⌝ }
+    ensures { λ r. ⌜ Underway (now (words .entry)) set end r ⌝ }
+{
+    let k = layout::kind_of(words[at * 4]);
+    match k {
+        layout::Kind::Policy { quiet, turned } => {
+            with_value(values, policy_value(words, at, end, quiet, turned, set))
+        }
+        layout::Kind::And => with_join(values, false),
+        layout::Kind::Or => with_join(values, true),
+        layout::Kind::Line => values,
+        layout::Kind::Unknown => values,
+    }
+}
+
+// What a sound listing says of the set. The crates above have had it checked.
+pub fn reading(words: &[u32], set: u16) -> bool
+    requires { ⌜ verdict (now words) ≡ result tt ⌝ }
+    ensures { λ r. ⌜ r ≡ says (now (words .entry)) set ⌝ }
+{
+    let mut values: u32 = 0;
+    let mut at: usize = 0;
+    while at < words.len() / 4 {
+        let end = next_index(words, at);
+        values = after_node(words, at, end, set, values);
+        at = end;
+    }
+    values == 1
+}
 
 // The rod's answer.
 pub enum Decision {
@@ -6,4 +115,20 @@ pub enum Decision {
     No,
     // The listing was declined.
     Declined(layout::Fault),
+}
+
+pub fn decide(words: &[u32], set: u16) -> Decision
+    ensures { λ r. ⌜ rodMeaning r ≡ rodAnswer (now (words .entry)) set ⌝ }
+{
+    let v = layout::check(words);
+    match v {
+        layout::Verdict::Sound => {
+            if reading(words, set) {
+                Decision::Yes
+            } else {
+                Decision::No
+            }
+        }
+        layout::Verdict::Declined(fault) => Decision::Declined(fault),
+    }
 }

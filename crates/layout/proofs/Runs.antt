@@ -1,0 +1,140 @@
+-- Runs of lines: what stands behind the lines that some records begin with.
+use Prim.Native.Nat.{ℕ, zero, suc, _+_, _*_, _-_, _/_, _≤_, _<_}
+use mathlib.Core.Bool.{Bool, true, false, cond}
+use mathlib.Core.List.{List, [], _∷_}
+use mathlib.Core.Path.{_≡_, refl, sym, ap, subst, _∙_}
+use native.Mathlib.Nat.{add-zero, zero-add, suc-add}
+use native.Mathlib.Omega.{arith}
+use lib.ListN.{length, getD, drop, length-drop}
+use Rattle.answers.specs.Answers.{Answer, result}
+use Rattle.layout.specs.Records.{Record, records, Kind, policy, line, unknown, kindOf, isLine, kinds}
+use Rattle.layout.specs.Judgement.{ifAny, nextNode, SoFar, soFarAfter, judged}
+use Rattle.layout.specs.Nodes.{leadingLines, nodeThen, nodes}
+use Rattle.layout.specs.Steps.{recordAt, recordsFrom}
+use Rattle.layout.proofs.Shape.{sound-step}
+use Rattle.layout.proofs.Places.{from-cons, from-nil}
+
+-- the records behind the lines that some records begin with
+unfoldable pub behindLines : List Record → List Record
+behindLines [] = []
+behindLines (r ∷ rest) = cond (isLine (kindOf (r .kind))) (behindLines rest) (r ∷ rest)
+
+-- they are what is left when the lines are dropped
+pub behind-drop : (rs : List Record) → drop (length (leadingLines rs)) rs ≡ behindLines rs
+unfolding leadingLines behindLines
+behind-drop [] = refl
+behind-drop (r ∷ rest) = go (isLine (kindOf (r .kind))) (behind-drop rest)
+  where
+    go : (b : Bool) → drop (length (leadingLines rest)) rest ≡ behindLines rest → drop (length (cond b (r .mask ∷ leadingLines rest) [])) (r ∷ rest) ≡ cond b (behindLines rest) (r ∷ rest)
+    go true ih = ih
+    go false ih = refl
+
+-- no line begins them
+pub behind-no-line : (rs : List Record) → leadingLines (behindLines rs) ≡ []
+unfolding leadingLines behindLines
+behind-no-line [] = refl
+behind-no-line (r ∷ rest) = go (isLine (kindOf (r .kind))) refl (behind-no-line rest)
+  where
+    go : (b : Bool) → isLine (kindOf (r .kind)) ≡ b → leadingLines (behindLines rest) ≡ [] → leadingLines (cond b (behindLines rest) (r ∷ rest)) ≡ []
+    go true e ih = ih
+    go false e ih = rw e refl
+
+-- lines are no nodes
+pub behind-nodes : (rs : List Record) → nodes (behindLines rs) ≡ nodes rs
+unfolding nodes nodeThen behindLines isLine
+behind-nodes [] = refl
+behind-nodes (r ∷ rest) = go (kindOf (r .kind)) refl (behind-nodes rest)
+  where
+    go : (k : Kind) → kindOf (r .kind) ≡ k → nodes (behindLines rest) ≡ nodes rest → nodes (cond (isLine k) (behindLines rest) (r ∷ rest)) ≡ nodeThen k (r .mask) (leadingLines rest) (nodes rest)
+    go line e ih = ih
+    go (policy q t) e ih = rw e refl
+    go (Kind.join j) e ih = rw e refl
+    go unknown e ih = rw e refl
+
+-- the next node is the first of them
+pub behind-next : (n : ℕ) (rs : List Record) → nextNode n (kinds rs) ≡ ifAny (behindLines rs) (n + length (leadingLines rs))
+unfolding nextNode kinds leadingLines behindLines ifAny
+behind-next n [] = refl
+behind-next n (r ∷ rest) = go (isLine (kindOf (r .kind))) (behind-next (n + 1) rest)
+  where
+    go : (b : Bool) → nextNode (n + 1) (kinds rest) ≡ ifAny (behindLines rest) (n + 1 + length (leadingLines rest))
+        → cond b (nextNode (n + 1) (kinds rest)) n ≡ ifAny (cond b (behindLines rest) (r ∷ rest)) (n + length (cond b (r .mask ∷ leadingLines rest) []))
+    go true ih = ih ∙ ap (λ (m : ℕ). ifAny (behindLines rest) m) (omega arith)
+    go false ih = sym (add-zero n)
+
+-- lines change nothing of what stands above
+pub behind-judged : (n : ℕ) (so : SoFar) (rs : List Record) → judged n so rs ≡ result tt → judged (n + length (leadingLines rs)) so (behindLines rs) ≡ result tt
+unfolding leadingLines behindLines soFarAfter isLine
+behind-judged n so [] h = rw add-zero h
+behind-judged n so (r ∷ rest) h = go (kindOf (r .kind)) (sound-step n so r rest h .1) (λ s. behind-judged (n + 1) so rest s)
+  where
+    go : (k : Kind) → judged (n + 1) (soFarAfter so k r) rest ≡ result tt
+        → (judged (n + 1) so rest ≡ result tt → judged (n + 1 + length (leadingLines rest)) so (behindLines rest) ≡ result tt)
+        → judged (n + length (cond (isLine k) (r .mask ∷ leadingLines rest) [])) so (cond (isLine k) (behindLines rest) (r ∷ rest)) ≡ result tt
+    go line s ih = subst (λ (m : ℕ). judged m so (behindLines rest) ≡ result tt) (omega arith) (ih s)
+    go (policy q t) s ih = rw add-zero h
+    go (Kind.join j) s ih = rw add-zero h
+    go unknown s ih = rw add-zero h
+
+-- ---- by index
+
+drop-nil : (n : ℕ) → drop {A = Record} n [] ≡ []
+drop-nil zero = refl
+drop-nil (suc n) = refl
+
+drop-drop : (n m : ℕ) (l : List Record) → drop m (drop n l) ≡ drop (n + m) l
+drop-drop zero m l = rw zero-add refl
+drop-drop (suc n) m [] = rw suc-add (drop-nil m)
+drop-drop (suc n) m (x ∷ l) = rw suc-add (drop-drop n m l)
+
+pub from-behind : (ws : List ℕ) (i : ℕ) → recordsFrom ws (i + length (leadingLines (recordsFrom ws i))) ≡ behindLines (recordsFrom ws i)
+unfolding recordsFrom
+from-behind ws i = sym (drop-drop i (length (leadingLines (drop i (records ws)))) (records ws)) ∙ behind-drop (drop i (records ws))
+
+length-records : (ws : List ℕ) → length (records ws) ≡ length ws / 4
+unfolding records
+length-records [] = refl
+length-records (k ∷ []) = omega arith
+length-records (k ∷ m ∷ []) = omega arith
+length-records (k ∷ m ∷ l ∷ []) = omega arith
+length-records (k ∷ m ∷ l ∷ n ∷ ws) = let h : length (records ws) ≡ length ws / 4 = length-records ws in omega arith
+
+leading-length : (rs : List Record) → length (leadingLines rs) ≤ length rs
+unfolding leadingLines
+leading-length [] = omega arith
+leading-length (r ∷ rest) = go (isLine (kindOf (r .kind))) (leading-length rest)
+  where
+    go : (b : Bool) → length (leadingLines rest) ≤ length rest → length (cond b (r .mask ∷ leadingLines rest) []) ≤ suc (length rest)
+    go true ih = omega arith
+    go false ih = omega arith
+
+-- a run of lines ends within the words
+pub run-in-words : (ws : List ℕ) (i : ℕ) → i ≤ length ws / 4 → i + length (leadingLines (recordsFrom ws i)) ≤ length ws / 4
+unfolding recordsFrom
+run-in-words ws i h =
+    let a = leading-length (drop i (records ws)) in
+    let b = length-drop i (records ws) in
+    let c = length-records ws in
+    omega arith
+
+-- the first line of a run, and the rest of it
+pub leading-more : (ws : List ℕ) (i : ℕ) → i < length ws / 4 → 0 < length (leadingLines (recordsFrom ws i))
+    → leadingLines (recordsFrom ws i) ≡ getD ws (i * 4 + 1) 0 ∷ leadingLines (recordsFrom ws (i + 1))
+unfolding leadingLines
+leading-more ws i h l = rw (from-cons ws i h) (go (isLine (kindOf (getD ws (i * 4) 0))) (rw (from-cons ws i h) at l))
+  where
+    go : (b : Bool) → 0 < length (cond b (getD ws (i * 4 + 1) 0 ∷ leadingLines (recordsFrom ws (i + 1))) [])
+        → cond b (getD ws (i * 4 + 1) 0 ∷ leadingLines (recordsFrom ws (i + 1))) [] ≡ getD ws (i * 4 + 1) 0 ∷ leadingLines (recordsFrom ws (i + 1))
+    go true k = refl
+    go false k = absurd (omega arith)
+
+-- past the last whole record there is no line
+pub leading-end : (ws : List ℕ) (i : ℕ) → length ws / 4 ≤ i → leadingLines (recordsFrom ws i) ≡ []
+unfolding leadingLines
+leading-end ws i h = rw (from-nil ws i h) refl
+
+-- the nodes from an index on: the node there, with the lines behind it, and the nodes after it
+pub nodes-here : (ws : List ℕ) (i : ℕ) (k : Kind) → i < length ws / 4 → k ≡ kindOf (getD ws (i * 4) 0)
+    → nodes (recordsFrom ws i) ≡ nodeThen k (getD ws (i * 4 + 1) 0) (leadingLines (recordsFrom ws (i + 1))) (nodes (recordsFrom ws (i + 1)))
+unfolding nodes
+nodes-here ws i k h e = rw (from-cons ws i h, e) refl

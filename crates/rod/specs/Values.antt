@@ -1,0 +1,52 @@
+-- The values as the code keeps them, and where it stands in a sound listing.
+use Prim.Native.Nat.{ℕ, _+_, _*_, _≤_}
+use mathlib.Core.Bool.{Bool, true, false}
+use mathlib.Core.List.{List, [], _∷_}
+use mathlib.Core.Path.{_≡_}
+use lib.ListN.{length, getD}
+use Rattle.answers.specs.Answers.{Answer, result}
+use Rattle.arith.specs.Trees.{run}
+use Rattle.layout.specs.Records.{Record, Join, and, or, bit}
+use Rattle.layout.specs.Judgement.{SoFar, judged}
+use Rattle.layout.specs.Nodes.{ListedPolicy, leadingLines, nodes}
+use Rattle.layout.specs.Steps.{recordsFrom}
+use Rattle.rod.specs.Reading.{policyValue, joined, remaining, says}
+
+-- values as bits of a number, the last in the lowest bit
+unfoldable pub bitsOf : List Bool → ℕ
+bitsOf [] = 0
+bitsOf (b ∷ values) = bit b + 2 * bitsOf values
+
+-- a join, from the code's flag
+abbrev pub joinMeaning : Bool → Join
+joinMeaning true = or
+joinMeaning false = and
+
+-- every number is a signal set
+abbrev pub AllSets : List ℕ → Type 0
+AllSets [] = Unit {0}
+AllSets (l ∷ ls) = (l ≤ 65535) × AllSets ls
+
+-- the policy at an index, with its flags and the lines behind it
+abbrev pub policyAt : List ℕ → ℕ → Bool → Bool → ListedPolicy
+policyAt ws at quiet turned = record { quiet = quiet; turned = turned; mask = getD ws (at * 4 + 1) 0; lines = leadingLines (recordsFrom ws (at + 1)) }
+
+-- the index behind a node and its lines
+unfoldable pub nodeEnd : List ℕ → ℕ → ℕ
+nodeEnd ws at = at + 1 + length (leadingLines (recordsFrom ws (at + 1)))
+
+-- the records from this index on are judged sound, and begin with no line
+pub record NodeAt (ws : List ℕ) (at : ℕ) : Type 0 where
+  pub above : SoFar
+  pub sound : judged at above (recordsFrom ws at) ≡ result tt
+  pub noLine : leadingLines (recordsFrom ws at) ≡ []
+
+-- at this index, with these values, the nodes to come say what the whole listing says
+pub record Underway (ws : List ℕ) (set at values : ℕ) : Type 0 where
+  pub node : NodeAt ws at
+  pub stack : List Bool
+  pub held : values ≡ bitsOf stack
+  pub height : node .above .values ≡ length stack
+  pub few : node .above .values ≤ node .above .policies
+  pub atMost : node .above .policies ≤ 16
+  pub same : remaining (run joined (policyValue set) (nodes (recordsFrom ws at)) stack) ≡ says ws set
