@@ -1,5 +1,5 @@
 -- The choice check and the comparison (document 01, "The office's checks").
-use Prim.Native.Nat.{ℕ, zero, suc, _+_}
+use Prim.Native.Nat.{ℕ, zero, suc, _+_, _-_}
 use mathlib.Core.Bool.{Bool, not, cond, Bool·beq}
 use mathlib.Core.List.{List}
 use mathlib.Core.Option.{Option, none, some}
@@ -14,9 +14,13 @@ lowestFrom (suc count) from test =
     let later = lowestFrom count (from + 1) test in
     cond (test from) (some from) later
 
+-- the lowest of the signal sets from `from` on, up to 65,535
+unfoldable pub lowestSince : ℕ → (ℕ → Bool) → Option ℕ
+lowestSince from test = lowestFrom (65536 - from) from test
+
 -- the lowest of all 65,536 signal sets that passes the test, if there is one
 unfoldable pub lowestSet : (ℕ → Bool) → Option ℕ
-lowestSet test = lowestFrom 65536 0 test
+lowestSet test = lowestSince 0 test
 
 -- "always", "never", or "both" with the lowest set that gives yes and the lowest that gives no
 pub data Choice : Type 0 where

@@ -1,24 +1,40 @@
 -- What the answers of the code mean, by document 01's numbers.
+use Prim.Native.Nat.{ℕ}
+use mathlib.Core.Bool.{Bool, true, false, not}
+use mathlib.Core.List.{List}
+use mathlib.Core.Option.{Option, none, some}
 use Rattle.answers.specs.Answers.{Answer, result}
 use Rattle.layout.specs.Meaning.{faultNumber, faultValue, faultMeaning}
-use Rattle.checks.specs.Checks
-use Rattle.checks.specs.Checks.{first, second}
-use Rattle.checks.specs.declared.Choice.{Choice}
-use Rattle.checks.specs.declared.Choice.the-variants.{Always, Never, Both, Declined}
-use Rattle.checks.specs.declared.Comparison.{Comparison}
-use Rattle.checks.specs.declared.Comparison.the-variants.{Alike, FirstYes, SecondYes, FirstDeclined, SecondDeclined}
+use Rattle.rod.specs.Reading.{says}
+use Rattle.checks.specs.Checks.{Choice, always, never, both, Comparison, alike, differ, declined, first, second}
+use Rattle.checks.specs.declared.Found.{Found}
+use Rattle.checks.specs.declared.Found.the-variants.{At, Nowhere}
+use Rattle.checks.specs.declared.ChoiceAnswer.{ChoiceAnswer}
+use Rattle.checks.specs.declared.ChoiceAnswer.the-variants.{Always, Never, Both, Declined}
+use Rattle.checks.specs.declared.ComparisonAnswer.{ComparisonAnswer}
+use Rattle.checks.specs.declared.ComparisonAnswer.the-variants.{Alike, FirstYes, SecondYes, FirstDeclined, SecondDeclined}
 
 -- the answer of `checks::choice`
-abbrev pub choiceMeaning : Choice → Answer Checks.Choice
-choiceMeaning Always = result Checks.Choice.always
-choiceMeaning Never = result Checks.Choice.never
-choiceMeaning (Both y n) = result (Checks.Choice.both y n)
+abbrev pub choiceMeaning : ChoiceAnswer → Answer Choice
+choiceMeaning Always = result always
+choiceMeaning Never = result never
+choiceMeaning (Both y n) = result (both y n)
 choiceMeaning (Declined f) = faultMeaning f
 
 -- the answer of `checks::compare`
-abbrev pub comparisonMeaning : Comparison → Checks.Comparison
-comparisonMeaning Alike = Checks.Comparison.alike
-comparisonMeaning (FirstYes set) = Checks.Comparison.differ set first
-comparisonMeaning (SecondYes set) = Checks.Comparison.differ set second
-comparisonMeaning (FirstDeclined f) = Checks.Comparison.declined first (faultNumber f) (faultValue f)
-comparisonMeaning (SecondDeclined f) = Checks.Comparison.declined second (faultNumber f) (faultValue f)
+abbrev pub comparisonMeaning : ComparisonAnswer → Comparison
+comparisonMeaning Alike = alike
+comparisonMeaning (FirstYes set) = differ set first
+comparisonMeaning (SecondYes set) = differ set second
+comparisonMeaning (FirstDeclined f) = declined first (faultNumber f) (faultValue f)
+comparisonMeaning (SecondDeclined f) = declined second (faultNumber f) (faultValue f)
+
+-- a lowest set, if there is one
+abbrev pub foundMeaning : Found → Option ℕ
+foundMeaning (At set) = some set
+foundMeaning Nowhere = none
+
+-- a listing gives yes, or no, on a set
+abbrev pub gives : List ℕ → Bool → ℕ → Bool
+gives ws true = λ set. says ws set
+gives ws false = λ set. not (says ws set)
