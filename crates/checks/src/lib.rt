@@ -6,6 +6,9 @@ ghost use Rattle.layout.specs.Judgement.{verdict};
 ghost use Rattle.checks.specs.Checks.{lowestSet, lowestSince, choice, differAt, comparison};
 ghost use Rattle.checks.specs.Meaning.{foundMeaning, gives, choiceMeaning, comparisonMeaning};
 
+// How many signal sets there are.
+const SETS: u32 = 65536;
+
 // The lowest set, if there is one.
 pub enum Found {
     At(u16),
@@ -27,7 +30,7 @@ fn lowest_above(words: &[u32], want: bool) -> Found
     ensures { λ r. ⌜ foundMeaning r ≡ lowestSince 1 (gives (now (words .entry)) want) ⌝ }
 {
     let mut set: u32 = 1;
-    while set < 65536 {
+    while set < SETS {
         let s = set as u16;
         if gives_wanted(words, want, s) {
             return Found::At(s);
@@ -93,7 +96,7 @@ fn lowest_difference(one: &[u32], two: &[u32]) -> Found
     ensures { λ r. ⌜ foundMeaning r ≡ lowestSet (differAt (now (one .entry)) (now (two .entry))) ⌝ }
 {
     let mut set: u32 = 0;
-    while set < 65536 {
+    while set < SETS {
         let s = set as u16;
         if differ_on(one, two, s) {
             return Found::At(s);

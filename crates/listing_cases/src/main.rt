@@ -1,0 +1,243 @@
+// Runs the cases of the listing part: vectors on standard input, one answer a line on standard output.
+//   check W W ..          the verdict on the words
+//   decide S W W ..       the rod's answer on signal set S
+//   choice W W ..         the choice check
+//   compare W .. / W ..   the comparison
+// A line that begins with # is copied.
+ghost use Prim.Native.Nat.{_≤_};
+ghost use mathlib.Core.Path.{_≡_};
+ghost use lib.ListN.{length};
+
+// Numbers of a line read so far: the one being read, how many are stored, and how many stood before the `/`.
+pub struct Scan {
+    pub value: u64,
+    pub inside: bool,
+    pub count: usize,
+    pub split: usize,
+}
+
+// The digit that a byte is, or 10.
+fn digit(b: u8) -> u64
+    ensures { λ r. ⌜ r ≤ 10 ⌝ }
+{
+    if b < 48 {
+        return 10;
+    }
+    if b > 57 {
+        return 10;
+    }
+    (b - 48) as u64
+}
+
+// A number is stored when it ends, if there is room.
+fn ended(s: Scan, b: u8, words: &mut [u32]) -> Scan
+    requires { ⌜ (s .count ≤ length (now words)) × (s .split ≤ s .count) ⌝ }
+    ensures { λ r. ⌜ (r .value ≤ 4294967299) × (r .count ≤ length (now (words .exit))) × (r .split ≤ r .count) × (length (now (words .exit)) ≡ length (now (words .entry))) ⌝ }
+{
+    let count = s.count;
+    if s.inside {
+        if count < words.len() {
+            words[count] = (s.value % 4294967296) as u32;
+            return Scan {
+                value: 0,
+                inside: false,
+                count: count + 1,
+                split: s.split,
+            };
+        }
+    }
+    if b == 47 {
+        return Scan {
+            value: 0,
+            inside: false,
+            count: count,
+            split: count,
+        };
+    }
+    Scan {
+        value: 0,
+        inside: false,
+        count: count,
+        split: s.split,
+    }
+}
+
+// The scan after one byte more.
+fn step(s: Scan, b: u8, words: &mut [u32]) -> Scan
+    requires { ⌜ (s .value ≤ 4294967299) × (s .count ≤ length (now words)) × (s .split ≤ s .count) ⌝ }
+    ensures { λ r. ⌜ (r .value ≤ 4294967299) × (r .count ≤ length (now (words .exit))) × (r .split ≤ r .count) × (length (now (words .exit)) ≡ length (now (words .entry))) ⌝ }
+{
+    let d = digit(b);
+    if d == 10 {
+        return ended(s, b, words);
+    }
+    if s.value > 429496728 {
+        return s;
+    }
+    Scan {
+        value: s.value * 10 + d,
+        inside: true,
+        count: s.count,
+        split: s.split,
+    }
+}
+
+// The numbers of a line, stored in `words`.
+fn numbers(line: &[u8], words: &mut [u32]) -> Scan
+    ensures { λ r. ⌜ (r .count ≤ length (now (words .exit))) × (r .split ≤ r .count) ⌝ }
+{
+    let mut s = Scan {
+        value: 0,
+        inside: false,
+        count: 0,
+        split: 0,
+    };
+    let mut i = 0;
+    while i < line.len() {
+        s = step(s, line[i], words);
+        i += 1;
+    }
+    ended(s, 32, words)
+}
+
+fn print(text: &[u8]) {
+    io::write_all(libc::STDOUT_FILENO, text);
+}
+
+fn print_number(n: u64) {
+    io::print_decimal(libc::STDOUT_FILENO, n);
+}
+
+fn print_fault(fault: layout::Fault) {
+    match fault {
+        layout::Fault::Length => print(b"refused 9 0"),
+        layout::Fault::Record(n) => {
+            print(b"refused 10 ");
+            print_number(n as u64);
+        }
+    }
+}
+
+fn run_check(words: &[u32]) {
+    let v = layout::check(words);
+    match v {
+        layout::Verdict::Sound => print(b"sound"),
+        layout::Verdict::Declined(fault) => print_fault(fault),
+    }
+}
+
+fn run_decide(words: &[u32], set: u16) {
+    let d = rod::decide(words, set);
+    match d {
+        rod::Decision::Yes => print(b"yes"),
+        rod::Decision::No => print(b"no"),
+        rod::Decision::Declined(fault) => print_fault(fault),
+    }
+}
+
+fn run_choice(words: &[u32]) {
+    let c = checks::choice(words);
+    match c {
+        checks::ChoiceAnswer::Always => print(b"always"),
+        checks::ChoiceAnswer::Never => print(b"never"),
+        checks::ChoiceAnswer::Both(yes, no) => {
+            print(b"both ");
+            print_number(yes as u64);
+            print(b" ");
+            print_number(no as u64);
+        }
+        checks::ChoiceAnswer::Declined(fault) => print_fault(fault),
+    }
+}
+
+fn print_difference(set: u16, which: &[u8]) {
+    print(b"set ");
+    print_number(set as u64);
+    print(which);
+}
+
+fn run_compare(one: &[u32], two: &[u32]) {
+    let c = checks::compare(one, two);
+    match c {
+        checks::ComparisonAnswer::Alike => print(b"alike"),
+        checks::ComparisonAnswer::FirstYes(set) => print_difference(set, b" first"),
+        checks::ComparisonAnswer::SecondYes(set) => print_difference(set, b" second"),
+        checks::ComparisonAnswer::FirstDeclined(fault) => {
+            print(b"first ");
+            print_fault(fault);
+        }
+        checks::ComparisonAnswer::SecondDeclined(fault) => {
+            print(b"second ");
+            print_fault(fault);
+        }
+    }
+}
+
+// The fourth byte tells the commands apart: che-c-k, dec-i-de, cho-i-ce, com-p-are.
+fn run_command(first: u8, fourth: u8, words: &[u32], split: usize)
+    requires { ⌜ split ≤ length (now words) ⌝ }
+{
+    if fourth == 99 {
+        run_check(words);
+    } else if fourth == 112 {
+        run_compare(&words[..split], &words[split..]);
+    } else if first == 99 {
+        run_choice(words);
+    } else if words.len() > 0 {
+        run_decide(&words[1..], (words[0] % 65536) as u16);
+    }
+    print(b"\n");
+}
+
+// A line of a command, with space for its numbers.
+fn run_stored(line: &[u8], words: &mut [u32])
+    requires { ⌜ 4 ≤ length (now line) ⌝ }
+{
+    let s = numbers(line, words);
+    let count = s.count;
+    let split = s.split;
+    run_command(line[0], line[3], &words[..count], split);
+}
+
+fn run_line(line: &[u8]) {
+    if line.len() < 4 {
+        return;
+    }
+    if line[0] == 35 {
+        print(line);
+        print(b"\n");
+        return;
+    }
+    let mut space = [0u32; 512];
+    run_stored(line, &mut space);
+}
+
+// The index of the first line end from index `at` on, or the length.
+fn line_end(text: &[u8], at: usize) -> usize
+    requires { ⌜ at ≤ length (now text) ⌝ }
+    ensures { λ r. ⌜ (at ≤ r) × (r ≤ length (now (text .entry))) ⌝ }
+{
+    let mut i = at;
+    while i < text.len() {
+        if text[i] == 10 {
+            return i;
+        }
+        i += 1;
+    }
+    i
+}
+
+fn run_lines(text: &[u8]) {
+    let mut at = 0;
+    while at < text.len() {
+        let end = line_end(text, at);
+        run_line(&text[at..end]);
+        at = end + 1;
+    }
+}
+
+fn main() {
+    let mut text = io::large_buffer();
+    let n = io::read_full(0, &mut text);
+    run_lines(&text[..n]);
+}

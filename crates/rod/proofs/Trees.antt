@@ -1,0 +1,32 @@
+-- The rod's answer on the listing of a tree is the tree's value; every sound listing is such a listing.
+use Prim.Native.Nat.{ℕ, _≤_}
+use mathlib.Core.Bool.{Bool}
+use mathlib.Core.List.{List, [], _∷_, _++_, append-nil}
+use mathlib.Core.Path.{_≡_, refl, sym, ap, _∙_}
+use Rattle.answers.specs.Answers.{Answer, result}
+use Rattle.arith.specs.Trees.{postfix, treeValue, run}
+use Rattle.arith.proofs.Trees.{run-tree}
+use Rattle.layout.specs.Records.{words}
+use Rattle.layout.specs.Judgement.{verdict}
+use Rattle.layout.specs.Nodes.{ListedNode, ListedTree, listing}
+use Rattle.layout.specs.WellFormed.{TreeFits, policyCount}
+use Rattle.layout.proofs.Soundness.{tree-sound, nodes-listing}
+use Rattle.layout.proofs.Shape.{sound-tree}
+use Rattle.rod.specs.Reading.{policyValue, joined, remaining, reading, says, rodAnswer}
+
+reading-tree : (t : ListedTree) (set : ℕ) → reading (postfix t) set ≡ treeValue joined (policyValue set) t
+unfolding reading run remaining
+reading-tree t set =
+    ap remaining
+    (ap (λ (ns : List ListedNode). run joined (policyValue set) ns []) (sym (append-nil (postfix t))) ∙ run-tree joined (policyValue set) t [] [])
+
+-- on the listing of a tree that fits, of at most 16 policies, the rod never refuses and gives the tree's value
+pub rod-tree : (t : ListedTree) (set : ℕ) → TreeFits t → policyCount t ≤ 16
+    → rodAnswer (words (listing (postfix t))) set ≡ result (treeValue joined (policyValue set) t)
+unfolding rodAnswer says
+rod-tree t set fits room = rw (tree-sound t fits room, nodes-listing, reading-tree) refl
+
+-- on any sound listing it gives the value of the tree that it is the listing of
+pub rod-sound : (ws : List ℕ) (set : ℕ) (h : verdict ws ≡ result tt) → rodAnswer ws set ≡ result (treeValue joined (policyValue set) (sound-tree ws h .tree))
+unfolding rodAnswer says
+rod-sound ws set h = rw (h, sound-tree ws h .same, reading-tree) refl
