@@ -118,16 +118,14 @@ fn print_fault(fault: layout::Fault) {
     }
 }
 
-fn run_check(words: &[u32]) {
-    let v = layout::check(words);
+fn print_verdict(v: layout::Verdict) {
     match v {
         layout::Verdict::Sound => print(b"sound"),
         layout::Verdict::Declined(fault) => print_fault(fault),
     }
 }
 
-fn run_decide(words: &[u32], set: u16) {
-    let d = rod::decide(words, set);
+fn print_decision(d: rod::Decision) {
     match d {
         rod::Decision::Yes => print(b"yes"),
         rod::Decision::No => print(b"no"),
@@ -135,8 +133,7 @@ fn run_decide(words: &[u32], set: u16) {
     }
 }
 
-fn run_choice(words: &[u32]) {
-    let c = checks::choice(words);
+fn print_choice(c: checks::ChoiceAnswer) {
     match c {
         checks::ChoiceAnswer::Always => print(b"always"),
         checks::ChoiceAnswer::Never => print(b"never"),
@@ -156,8 +153,7 @@ fn print_difference(set: u16, which: &[u8]) {
     print(which);
 }
 
-fn run_compare(one: &[u32], two: &[u32]) {
-    let c = checks::compare(one, two);
+fn print_comparison(c: checks::ComparisonAnswer) {
     match c {
         checks::ComparisonAnswer::Alike => print(b"alike"),
         checks::ComparisonAnswer::FirstYes(set) => print_difference(set, b" first"),
@@ -178,13 +174,13 @@ fn run_command(first: u8, fourth: u8, words: &[u32], split: usize)
     requires { ⌜ split ≤ length (now words) ⌝ }
 {
     if fourth == 99 {
-        run_check(words);
+        print_verdict(layout::check(words));
     } else if fourth == 112 {
-        run_compare(&words[..split], &words[split..]);
+        print_comparison(checks::compare(&words[..split], &words[split..]));
     } else if first == 99 {
-        run_choice(words);
+        print_choice(checks::choice(words));
     } else if words.len() > 0 {
-        run_decide(&words[1..], (words[0] % 65536) as u16);
+        print_decision(rod::decide(&words[1..], (words[0] % 65536) as u16));
     }
     print(b"\n");
 }

@@ -9,8 +9,8 @@ use lib.Bits.{bitAnd}
 use lib.ListN.{length, getD}
 use borrow.Author.Tests.{eq-eqb, ne-eqb}
 use Rattle.arith.proofs.Order.{le-or-lt}
-use Rattle.signals.specs.Sets.{inside, overlap}
-use Rattle.signals.proofs.SetLaws.{inside-and}
+use Rattle.signals.specs.Sets.{inside}
+use Rattle.signals.proofs.SetLaws.{inside-and, overlap-and}
 use Rattle.layout.specs.Nodes.{ListedPolicy, leadingLines}
 use Rattle.layout.specs.Steps.{recordsFrom}
 use Rattle.layout.proofs.Runs.{leading-more, leading-end}
@@ -58,15 +58,15 @@ run-end ws i end set run h = go (leadingLines (recordsFrom ws i)) (omega arith)
     go (l ∷ ls) e = absurd (omega arith)
 
 -- a policy's value, by the code's tests
-module _ (p : ListedPolicy) (set : ℕ) where
-  pub value-quiet : false ≡ overlap (p .mask) set → p .quiet ≡ policyValue set p
+module _ (p : ListedPolicy) (set : ℕ) (small : set < 2 ^ 16) where
+  pub value-quiet : bitAnd (p .mask) set ≡ 0 → p .quiet ≡ policyValue set p
   unfolding policyValue
-  value-quiet e = rw (← e) refl
+  value-quiet e = rw (overlap-and (p .mask) set small, eq-eqb (bitAnd (p .mask) set) 0 e) refl
 
-  pub value-turned : true ≡ overlap (p .mask) set → p .turned ≡ true → (b : Bool) → b ≡ someLine (p .lines) set → not b ≡ policyValue set p
+  pub value-turned : (bitAnd (p .mask) set ≡ 0 → ⊥) → p .turned ≡ true → (b : Bool) → b ≡ someLine (p .lines) set → not b ≡ policyValue set p
   unfolding policyValue
-  value-turned e t b f = rw (← e, t) (ap not f)
+  value-turned e t b f = rw (overlap-and (p .mask) set small, ne-eqb (bitAnd (p .mask) set) 0 e, t) (ap not f)
 
-  pub value-plain : true ≡ overlap (p .mask) set → p .turned ≡ false → (b : Bool) → b ≡ someLine (p .lines) set → b ≡ policyValue set p
+  pub value-plain : (bitAnd (p .mask) set ≡ 0 → ⊥) → p .turned ≡ false → (b : Bool) → b ≡ someLine (p .lines) set → b ≡ policyValue set p
   unfolding policyValue
-  value-plain e t b f = rw (← e, t) f
+  value-plain e t b f = rw (overlap-and (p .mask) set small, ne-eqb (bitAnd (p .mask) set) 0 e, t) f

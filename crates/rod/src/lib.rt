@@ -35,7 +35,8 @@ fn policy_value(words: &[u32], at: usize, end: usize, quiet: bool, turned: bool,
     requires { ⌜ (at < length (now words) / 4) × (end ≡ nodeEnd (now words) at) × AllSets (leadingLines (recordsFrom (now words) (at + 1))) ⌝ }
     ensures { λ r. ⌜ r ≡ policyValue set (policyAt (now (words .entry)) at quiet turned) ⌝ }
 {
-    if signals::overlaps(words[at * 4 + 1], set) {
+    let mask = words[at * 4 + 1];
+    if mask & set as u32 != 0 {
         let found = some_line(words, at + 1, end, set);
         if turned { !found } else { found }
     } else {

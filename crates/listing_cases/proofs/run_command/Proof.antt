@@ -1,81 +1,70 @@
+-- `listing_cases::run_command`: the parts that it lends lie in the words.
 use native.Mathlib.Omega.{arith}
 use lib.ListN.{length-take}
 use borrow.Author.Needs.{needs}
 use Rattle.listing_cases.proofs.run_command.Statement.{statement}
 use Rattle.listing_cases.proofs.run_command.Tie as tie
-use Rattle.listing_cases.proofs.run_command.Reads as reads
-use Rattle.listing_cases.proofs.run_command.Lts as lts
-use Rattle.listing_cases.proofs.print.Reads as print-reads
-use Rattle.listing_cases.proofs.run_check.Reads as run-check-reads
-use Rattle.listing_cases.proofs.run_choice.Reads as run-choice-reads
-use Rattle.listing_cases.proofs.run_compare.Reads as run-compare-reads
-use Rattle.listing_cases.proofs.run_decide.Reads as run-decide-reads
 
--- src/main.rt:181:9
-run-check-requires : tie.Need-run-check-requires
-run-check-requires c κs = search needs
+check-requires : tie.Need-check-requires
+check-requires c κs = search needs
 
--- src/main.rt:183:21
-slice-aggregate-run-compare : tie.Need-slice-aggregate-run-compare
-slice-aggregate-run-compare c = simp length-take (omega arith)
+print-verdict-requires : tie.Need-print-verdict-requires
+print-verdict-requires c κs = search needs
 
--- src/main.rt:183:38
-mul-run-compare : tie.Need-mul-run-compare
-mul-run-compare c = search needs
+slice-aggregate-compare : tie.Need-slice-aggregate-compare
+slice-aggregate-compare c = simp length-take (omega arith)
 
--- src/main.rt:183:38
-sub-run-compare : tie.Need-sub-run-compare
-sub-run-compare c = search needs
+mul-compare : tie.Need-mul-compare
+mul-compare c = search needs
 
--- src/main.rt:183:38
-part-run-compare-start : tie.Need-part-run-compare-start
-part-run-compare-start c = search needs
+sub-compare : tie.Need-sub-compare
+sub-compare c = search needs
 
--- src/main.rt:183:38
-part-run-compare-end : tie.Need-part-run-compare-end
-part-run-compare-end c = search needs
+part-compare-start : tie.Need-part-compare-start
+part-compare-start c = search needs
 
--- src/main.rt:183:9
-run-compare-requires : tie.Need-run-compare-requires
-run-compare-requires c κs = search needs
+part-compare-end : tie.Need-part-compare-end
+part-compare-end c = search needs
 
--- src/main.rt:185:9
-run-choice-requires : tie.Need-run-choice-requires
-run-choice-requires c κs = search needs
+compare-requires : tie.Need-compare-requires
+compare-requires c κs = search needs
 
--- src/main.rt:187:20
-sub-run-decide : tie.Need-sub-run-decide
-sub-run-decide c = search needs
+print-comparison-requires : tie.Need-print-comparison-requires
+print-comparison-requires c κs = search needs
 
--- src/main.rt:187:20
-part-run-decide-start : tie.Need-part-run-decide-start
-part-run-decide-start c = search needs
+choice-requires : tie.Need-choice-requires
+choice-requires c κs = search needs
 
--- src/main.rt:187:20
-part-run-decide-end : tie.Need-part-run-decide-end
-part-run-decide-end c = search needs
+print-choice-requires : tie.Need-print-choice-requires
+print-choice-requires c κs = search needs
 
--- src/main.rt:187:34
-shared-slice-read-run-decide : tie.Need-shared-slice-read-run-decide
-shared-slice-read-run-decide c = search needs
+sub-decide : tie.Need-sub-decide
+sub-decide c = search needs
 
--- src/main.rt:187:33
-cast-run-decide : tie.Need-cast-run-decide
-cast-run-decide c = search needs
+part-decide-start : tie.Need-part-decide-start
+part-decide-start c = search needs
 
--- src/main.rt:187:9
-run-decide-requires : tie.Need-run-decide-requires
-run-decide-requires c κs = search needs
+part-decide-end : tie.Need-part-decide-end
+part-decide-end c = search needs
 
--- src/main.rt:189:11
+shared-slice-read-decide : tie.Need-shared-slice-read-decide
+shared-slice-read-decide c = search needs
+
+cast-decide : tie.Need-cast-decide
+cast-decide c = search needs
+
+decide-requires : tie.Need-decide-requires
+decide-requires c κs = search needs
+
+print-decision-requires : tie.Need-print-decision-requires
+print-decision-requires c κs = search needs
+
 slice-aggregate-print : tie.Need-slice-aggregate-print
 slice-aggregate-print c = search needs
 
--- src/main.rt:189:5
 print-requires : tie.Need-print-requires
 print-requires c κs = search needs
 
--- src/main.rt:177:1
 returns : tie.Need-returns
 returns c = search needs
 
@@ -83,20 +72,24 @@ pub run-command-spec : {M : Type 1} → statement M
 run-command-spec =
     tie.close
     (tie.spec
-    run-check-requires
-    slice-aggregate-run-compare
-    mul-run-compare
-    sub-run-compare
-    part-run-compare-start
-    part-run-compare-end
-    run-compare-requires
-    run-choice-requires
-    sub-run-decide
-    part-run-decide-start
-    part-run-decide-end
-    shared-slice-read-run-decide
-    cast-run-decide
-    run-decide-requires
+    check-requires
+    print-verdict-requires
+    slice-aggregate-compare
+    mul-compare
+    sub-compare
+    part-compare-start
+    part-compare-end
+    compare-requires
+    print-comparison-requires
+    choice-requires
+    print-choice-requires
+    sub-decide
+    part-decide-start
+    part-decide-end
+    shared-slice-read-decide
+    cast-decide
+    decide-requires
+    print-decision-requires
     slice-aggregate-print
     print-requires
     returns)

@@ -1,12 +1,9 @@
+-- `listing_cases::run_lines`: each turn takes a line.
 use Prim.Native.Nat.{_-_}
 use lib.ListN.{length}
 use borrow.Author.Needs.{needs}
 use Rattle.listing_cases.proofs.run_lines.Statement.{statement}
 use Rattle.listing_cases.proofs.run_lines.Tie as tie
-use Rattle.listing_cases.proofs.run_lines.Reads as reads
-use Rattle.listing_cases.proofs.run_lines.Lts as lts
-use Rattle.listing_cases.proofs.line_end.Reads as line-end-reads
-use Rattle.listing_cases.proofs.run_line.Reads as run-line-reads
 
 abbrev Inv-loop : tie.InvT-loop
 Inv-loop text at₀ at = Unit {0}
@@ -14,43 +11,33 @@ Inv-loop text at₀ at = Unit {0}
 abbrev μ-loop : tie.MeasureT-loop
 μ-loop text at₀ at = length text - at
 
--- src/main.rt:232:5
 loop-holds : tie.Need-loop-holds Inv-loop μ-loop
 loop-holds c = tt
 
--- src/main.rt:233:13
 line-end-requires : tie.Need-line-end-requires Inv-loop μ-loop
 line-end-requires c κs = search needs
 
--- src/main.rt:234:18
 sub-run-line : tie.Need-sub-run-line Inv-loop μ-loop
 sub-run-line c = search needs
 
--- src/main.rt:234:18
 part-run-line-start : tie.Need-part-run-line-start Inv-loop μ-loop
 part-run-line-start c = search needs
 
--- src/main.rt:234:18
 part-run-line-end : tie.Need-part-run-line-end Inv-loop μ-loop
 part-run-line-end c = search needs
 
--- src/main.rt:234:9
 run-line-requires : tie.Need-run-line-requires Inv-loop μ-loop
 run-line-requires c κs = search needs
 
--- src/main.rt:235:14
 add-at : tie.Need-add-at Inv-loop μ-loop
 add-at c = search needs
 
--- src/main.rt:232:5
 loop-less : tie.Need-loop-less Inv-loop μ-loop
 loop-less c = search needs
 
--- src/main.rt:232:5
 loop-again : tie.Need-loop-again Inv-loop μ-loop
 loop-again c = tt
 
--- src/main.rt:230:1
 returns : tie.Need-returns Inv-loop μ-loop
 returns c = search needs
 
