@@ -1,8 +1,7 @@
 -- Laws of bits as the code holds them: shifts and powers of two.
-use Prim.Native.Nat.{ℕ, zero, suc, _+_, _-_, _*_, _%_, _^_, _<_}
-use mathlib.Core.Path.{_≡_, ap, _∙_}
-use native.Mathlib.Nat.{one-mul, two-pow-succ}
-use native.Mathlib.Numerals.{add-one}
+use Prim.Native.Nat.{ℕ, _-_, _*_, _%_, _^_, _<_}
+use mathlib.Core.Path.{_≡_, _∙_}
+use native.Mathlib.Nat.{one-mul}
 use native.Mathlib.Omega.{arith}
 use lib.Dec.{lit<}
 use lib.Pow.{shl-exact}

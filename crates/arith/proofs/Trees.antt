@@ -1,7 +1,7 @@
 -- Taking a tree's nodes in the order left, right, join leaves the tree's value, whatever the values are.
 use mathlib.Core.List.{List, [], _∷_, _++_, append-assoc}
 use mathlib.Core.Path.{_≡_, refl, _∙_}
-use Rattle.arith.specs.Trees.{Tree, leaf, join, Node, value, joining, postfix, treeValue, taken, run}
+use Rattle.arith.specs.Trees.{Tree, leaf, join, Node, joining, postfix, treeValue, taken, run}
 
 module _ {J L A : Type 0} (onJoin : J → A → A → A) (onLeaf : L → A) where
   pub run-tree : (t : Tree J L) (ns : List (Node J L)) (values : List A)

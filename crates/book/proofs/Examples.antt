@@ -1,13 +1,13 @@
 -- Computed examples of reading: a book as it is read, each refusal at its boundary, and the first of several reasons.
 use Prim.Native.Nat.{ℕ, zero, suc}
 use Prim.Native.String.{String, _++_}
-use mathlib.Core.List.{List, [], _∷_}
+use mathlib.Core.List.{[], _∷_}
 use mathlib.Core.Path.{_≡_, refl}
 use lib.IntN.{ℤ, pos, negsuc}
 use lib.ListN.{replicate}
 use Rattle.answers.specs.Answers.{Answer, result, refused}
 use Rattle.arith.specs.Trees.{leaf, join}
-use Rattle.peal.specs.Policies.{Rule, Policy, smaller, Condition, Book}
+use Rattle.peal.specs.Policies.{Rule, smaller}
 use Rattle.peal.specs.declared.Operator.the-variants.{Min, Max, Sum}
 use Rattle.peal.specs.declared.Sense.the-variants.{Above, AtMost}
 use Rattle.book.specs.Text.{bytes}

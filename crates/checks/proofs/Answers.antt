@@ -1,13 +1,13 @@
 -- The checks' answers, by the verdicts and the lowest sets.
 use Prim.Native.Nat.{ℕ}
-use mathlib.Core.Bool.{Bool, true, false, not, cond, Bool·beq}
+use mathlib.Core.Bool.{Bool, true, false, not, Bool·beq}
 use mathlib.Core.List.{List}
 use mathlib.Core.Option.{Option, none, some}
 use mathlib.Core.Path.{_≡_, refl, sym, ap, _∙_}
-use Rattle.answers.specs.Answers.{Answer, result, refused}
+use Rattle.answers.specs.Answers.{result, refused}
 use Rattle.layout.specs.Judgement.{verdict}
 use Rattle.rod.specs.Reading.{says}
-use Rattle.checks.specs.Checks.{lowestSet, lowestSince, Choice, always, never, both, choice, choiceOf, first, second, Comparison, alike, differ, declined, comparison, comparisonOf, examined, differAt}
+use Rattle.checks.specs.Checks.{lowestSet, lowestSince, always, never, both, choice, choiceOf, first, second, alike, differ, declined, comparison, comparisonOf, examined, differAt}
 use Rattle.checks.specs.Meaning.{gives}
 use Rattle.checks.proofs.Search.{lowest-zero, lowest-above}
 

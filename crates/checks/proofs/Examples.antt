@@ -2,8 +2,8 @@
 use Prim.Native.Nat.{ℕ}
 use mathlib.Core.List.{List, [], _∷_}
 use mathlib.Core.Path.{_≡_, refl}
-use Rattle.answers.specs.Answers.{Answer, result, refused}
-use Rattle.checks.specs.Checks.{Choice, both, choice, first, second, Comparison, differ, declined, comparison}
+use Rattle.answers.specs.Answers.{result, refused}
+use Rattle.checks.specs.Checks.{both, choice, first, second, differ, declined, comparison}
 use Rattle.checks.specs.Computing.{checksCompute}
 
 -- yes exactly where signal s, of weight w, is present; and the same turned over

@@ -1,6 +1,5 @@
 -- Computed examples of compiling: refusal 8 after 7, and the lent words.
 use Prim.Native.Nat.{ℕ}
-use Prim.Native.String.{String}
 use mathlib.Core.List.{List, [], _∷_}
 use mathlib.Core.Path.{_≡_, refl}
 use lib.ListN.{length}

@@ -2,7 +2,7 @@
 use Prim.Native.Nat.{ℕ}
 use mathlib.Core.List.{List, [], _∷_, _++_}
 use mathlib.Core.Path.{_≡_, refl}
-use lib.ListN.{take, set, replicate}
+use lib.ListN.{take, set}
 use Rattle.answers.specs.Answers.{Answer, result, refused}
 use Rattle.layout.specs.Judgement.{verdict}
 use Rattle.layout.specs.Computing.{layoutComputes}

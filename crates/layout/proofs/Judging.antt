@@ -1,15 +1,13 @@
 -- The judgement, a step at a time: what the code's parts say together is a step, and what a step says of the judgement.
 use Prim.Native.Nat.{ℕ, _+_, _-_, _/_, _%_, _≤_, _<_}
-use mathlib.Core.Bool.{Bool, true, false, not, cond, _&&_}
-use mathlib.Core.List.{List, [], _∷_}
+use mathlib.Core.Bool.{Bool, true, false, cond}
+use mathlib.Core.List.{List}
 use mathlib.Core.Option.{Option, none, some}
 use mathlib.Core.Path.{_≡_, refl, sym, ap, subst, _∙_}
 use native.Mathlib.Omega.{arith}
-use lib.Dec.{eqb, leb}
 use lib.ListN.{length}
 use borrow.Author.Tests.{eq-eqb, ne-eqb}
-use Rattle.answers.specs.Answers.{Answer, result, refused, require}
-use Rattle.signals.specs.Sets.{isSet}
+use Rattle.answers.specs.Answers.{result, refused, require}
 use Rattle.layout.specs.Records.{Record, Join, Kind, policy, line, join, unknown, kindOf, kinds}
 use Rattle.layout.specs.Judgement.{ifAny, ifLine, nextNode, SoFar, noRecord, keepsLayout, soFarAfter, judged, lengthSound, verdict}
 use Rattle.layout.specs.Steps.{recordAt, recordsFrom, policyStep, lineStep, joinStep, stepOf, stepAt}

@@ -1,11 +1,11 @@
 -- The records from an index on, as the code reads them: four words at four times the index.
 use Prim.Native.Nat.{ℕ, zero, suc, _+_, _*_, _-_, _/_, _≤_, _<_}
-use mathlib.Core.Bool.{Bool, true, false, cond}
+use mathlib.Core.Bool.{true, false}
 use mathlib.Core.List.{List, [], _∷_}
-use mathlib.Core.Path.{_≡_, refl, sym, ap, ap₂, _∙_}
+use mathlib.Core.Path.{_≡_, refl, ap, ap₂, _∙_}
 use native.Mathlib.Omega.{arith}
 use lib.ListN.{length, getD, drop}
-use Rattle.layout.specs.Records.{Record, records, Join, Kind, policy, line, unknown, lineKind, kindOf, isLine, kinds}
+use Rattle.layout.specs.Records.{Record, records, Kind, policy, line, unknown, lineKind, kindOf, isLine, kinds}
 use Rattle.layout.specs.Judgement.{ifAny, ifLine, nextNode}
 use Rattle.layout.specs.Steps.{recordAt, recordsFrom}
 use Rattle.layout.proofs.Soundness.{kind-line}

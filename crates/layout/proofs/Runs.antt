@@ -6,11 +6,11 @@ use mathlib.Core.Path.{_≡_, refl, sym, ap, subst, _∙_}
 use native.Mathlib.Nat.{add-zero, zero-add, suc-add}
 use native.Mathlib.Omega.{arith}
 use lib.ListN.{length, getD, drop, length-drop}
-use Rattle.answers.specs.Answers.{Answer, result}
+use Rattle.answers.specs.Answers.{result}
 use Rattle.layout.specs.Records.{Record, records, Kind, policy, line, unknown, kindOf, isLine, kinds}
 use Rattle.layout.specs.Judgement.{ifAny, nextNode, SoFar, soFarAfter, judged}
 use Rattle.layout.specs.Nodes.{leadingLines, nodeThen, nodes}
-use Rattle.layout.specs.Steps.{recordAt, recordsFrom}
+use Rattle.layout.specs.Steps.{recordsFrom}
 use Rattle.layout.proofs.Shape.{sound-step}
 use Rattle.layout.proofs.Places.{from-cons, from-nil}
 

@@ -1,22 +1,22 @@
 -- A sound listing is the listing of its nodes, and those are well-formed.
-use Prim.Native.Nat.{ℕ, zero, suc, _+_, _-_, _%_, _≤_}
+use Prim.Native.Nat.{ℕ, _+_, _-_, _%_, _≤_}
 use mathlib.Core.Bool.{Bool, true, false, not, cond, _&&_, false≢true}
 use mathlib.Core.List.{List, [], _∷_, _++_, append-assoc, append-nil}
-use mathlib.Core.Option.{Option, none, some}
+use mathlib.Core.Option.{none, some}
 use mathlib.Core.Path.{_≡_, refl, sym, ap, ap₂, subst, _∙_}
 use native.Mathlib.Nat.{add-zero}
 use native.Mathlib.Omega.{arith}
 use lib.Dec.{eqb, leb}
 use lib.ListN.{length}
 use borrow.Author.Tests.{eqb-true, leb-true}
-use Rattle.answers.specs.Answers.{Answer, result, refused, require}
+use Rattle.answers.specs.Answers.{Answer, result, require}
 use Rattle.arith.specs.Trees.{leaf, join, value, joining, postfix}
 use Rattle.arith.proofs.Tests.{and-left, and-right}
 use Rattle.signals.specs.Sets.{isSet, inside}
-use Rattle.layout.specs.Records.{Record, records, words, Join, and, or, Kind, policy, line, unknown, bit, lineKind, joinKind, policyKind, kindOf, isLine, kinds}
+use Rattle.layout.specs.Records.{Record, records, words, Join, and, or, Kind, policy, line, unknown, lineKind, joinKind, policyKind, kindOf, isLine, kinds}
 use Rattle.layout.specs.Judgement.{ifAny, ifLine, nextNode, SoFar, noRecord, insidePolicy, keepsLayout, soFarAfter, judged, lengthSound, verdict}
-use Rattle.layout.specs.Nodes.{ListedPolicy, ListedNode, ListedTree, lineRecords, nodeRecords, listing, leadingLines, nodeThen, nodes}
-use Rattle.layout.specs.WellFormed.{LinesFit, PolicyFits, TreeFits, policyCount, WellFormed}
+use Rattle.layout.specs.Nodes.{ListedNode, ListedTree, lineRecords, nodeRecords, listing, leadingLines, nodeThen, nodes}
+use Rattle.layout.specs.WellFormed.{LinesFit, TreeFits, policyCount, WellFormed}
 use Rattle.layout.proofs.Soundness.{no-line, any-nodes, next-nodes, line-lines, next-lines}
 
 -- ---- what a test that holds says

@@ -1,21 +1,20 @@
 -- The listing of well-formed nodes is sound, and its nodes are those nodes.
 use Prim.Native.Nat.{ℕ, suc, _+_, _*_, _-_, _%_, _≤_}
-use mathlib.Core.Bool.{Bool, true, false, cond, _&&_}
+use mathlib.Core.Bool.{Bool, true, false, _&&_}
 use mathlib.Core.List.{List, [], _∷_, _++_, append-assoc, append-nil}
 use mathlib.Core.Option.{Option, none, some}
 use mathlib.Core.Path.{_≡_, refl, sym, ap, subst, subst₂, _∙_}
 use native.Mathlib.Nat.{add-zero}
 use native.Mathlib.Omega.{arith}
-use lib.Dec.{eqb, leb}
 use lib.ListN.{length}
 use borrow.Author.Tests.{eq-eqb, ne-eqb, le-leb}
-use Rattle.answers.specs.Answers.{Answer, result, refused}
-use Rattle.arith.specs.Trees.{Tree, leaf, join, value, joining, postfix}
+use Rattle.answers.specs.Answers.{result}
+use Rattle.arith.specs.Trees.{leaf, join, value, joining, postfix}
 use Rattle.signals.specs.Sets.{isSet, inside}
-use Rattle.layout.specs.Records.{Record, records, words, Join, and, or, Kind, policy, line, unknown, bit, lineKind, joinKind, policyKind, kindOf, isLine, kinds}
+use Rattle.layout.specs.Records.{Record, records, words, Join, and, or, Kind, policy, line, bit, lineKind, joinKind, policyKind, kindOf, isLine, kinds}
 use Rattle.layout.specs.Judgement.{ifAny, ifLine, nextNode, SoFar, noRecord, insidePolicy, keepsLayout, soFarAfter, judged, lengthSound, verdict}
-use Rattle.layout.specs.Nodes.{ListedPolicy, ListedNode, ListedTree, lineRecords, nodeRecords, listing, leadingLines, nodeThen, nodes}
-use Rattle.layout.specs.WellFormed.{LinesFit, PolicyFits, TreeFits, policyCount, WellFormed}
+use Rattle.layout.specs.Nodes.{ListedNode, ListedTree, lineRecords, nodeRecords, listing, leadingLines, nodeThen, nodes}
+use Rattle.layout.specs.WellFormed.{LinesFit, TreeFits, policyCount, WellFormed}
 
 -- ---- kinds and tests
 

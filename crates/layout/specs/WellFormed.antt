@@ -3,7 +3,7 @@ use Prim.Native.Nat.{ℕ, _+_, _-_, _≤_}
 use mathlib.Core.Bool.{true}
 use mathlib.Core.List.{List, [], _∷_}
 use mathlib.Core.Path.{_≡_}
-use Rattle.arith.specs.Trees.{Tree, leaf, join, value, joining}
+use Rattle.arith.specs.Trees.{leaf, join, value, joining}
 use Rattle.signals.specs.Sets.{inside}
 use Rattle.layout.specs.Nodes.{ListedPolicy, ListedNode, ListedTree}
 

@@ -3,8 +3,7 @@ use Prim.Native.Nat.{ℕ}
 use mathlib.Core.Bool.{Bool, true, false, not}
 use mathlib.Core.List.{[], _∷_}
 use mathlib.Core.Path.{_≡_, refl, ap, _∙_}
-use lib.IntN.{ℤ, pos, +ℤ-idr}
-use lib.Signed.{ltZ, leZ}
+use lib.IntN.{ℤ, +ℤ-idr}
 use Rattle.arith.proofs.Order.{ltZ-not, leZ-refl, scale-scale}
 use Rattle.signals.specs.Sets.{present}
 use Rattle.peal.specs.Policies.{Policy}

@@ -3,7 +3,7 @@ use Prim.Native.Nat.{ℕ}
 use mathlib.Core.List.{List, [], _∷_, map}
 use mathlib.Core.Path.{_≡_, refl}
 use lib.IntN.{ℤ, pos, negsuc}
-use Rattle.peal.specs.Policies.{Rule, Policy}
+use Rattle.peal.specs.Policies.{Rule}
 use Rattle.peal.specs.Score.{scaled, policyScore}
 use Rattle.peal.specs.Lines.{lines}
 use Rattle.peal.specs.Translation.{maskOf}

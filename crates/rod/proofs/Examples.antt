@@ -1,8 +1,8 @@
 -- Computed examples of the rod's reading.
 use mathlib.Core.Bool.{true, false}
-use mathlib.Core.List.{List, [], _∷_}
+use mathlib.Core.List.{[], _∷_}
 use mathlib.Core.Path.{_≡_, refl}
-use Rattle.answers.specs.Answers.{Answer, result, refused}
+use Rattle.answers.specs.Answers.{result, refused}
 use Rattle.rod.specs.Reading.{rodAnswer}
 use Rattle.rod.specs.Computing.{rodComputes}
 

@@ -1,15 +1,14 @@
 -- Lines against a set, one at a time.
 use Prim.Native.Nat.{ℕ, _+_, _*_, _/_, _^_, _≤_, _<_}
-use mathlib.Core.Bool.{Bool, true, false, not, cond}
+use mathlib.Core.Bool.{Bool, true, false, not}
 use mathlib.Core.List.{List, [], _∷_}
 use mathlib.Core.Logic.{⊎-elim}
-use mathlib.Core.Path.{_≡_, refl, sym, ap, subst, _∙_}
+use mathlib.Core.Path.{_≡_, refl, ap, subst}
 use native.Mathlib.Omega.{arith}
 use lib.Bits.{bitAnd}
 use lib.ListN.{length, getD}
 use borrow.Author.Tests.{eq-eqb, ne-eqb}
 use Rattle.arith.proofs.Order.{le-or-lt}
-use Rattle.signals.specs.Sets.{inside}
 use Rattle.signals.proofs.SetLaws.{inside-and, overlap-and}
 use Rattle.layout.specs.Nodes.{ListedPolicy, leadingLines}
 use Rattle.layout.specs.Steps.{recordsFrom}

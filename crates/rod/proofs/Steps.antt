@@ -1,17 +1,17 @@
 -- The rod's way through a sound listing, a node at a time.
 use Prim.Native.Nat.{ℕ, _+_, _-_, _*_, _/_, _≤_, _<_}
-use mathlib.Core.Bool.{Bool, true, false, not, cond, false≢true}
-use mathlib.Core.List.{List, [], _∷_, map}
+use mathlib.Core.Bool.{Bool, true, false, false≢true}
+use mathlib.Core.List.{List, [], _∷_}
 use mathlib.Core.Logic.{_⊎_, inl, inr, ⊎-elim}
 use mathlib.Core.Path.{_≡_, refl, sym, ap, ap₂, subst, _∙_}
 use native.Mathlib.Omega.{arith}
 use lib.Dec.{eqb}
 use lib.ListN.{length, getD, drop}
-use Rattle.answers.specs.Answers.{Answer, result, refused}
+use Rattle.answers.specs.Answers.{result, refused}
 use Rattle.arith.specs.Trees.{taken, run}
 use Rattle.arith.proofs.Order.{le-or-lt}
 use Rattle.layout.specs.Records.{Record, records, Join, Kind, policy, line, unknown, kindOf, isLine, kinds}
-use Rattle.layout.specs.Judgement.{ifAny, SoFar, noRecord, keepsLayout, soFarAfter, judged, verdict}
+use Rattle.layout.specs.Judgement.{ifAny, noRecord, keepsLayout, soFarAfter, judged, verdict}
 use Rattle.layout.specs.Nodes.{ListedNode, leadingLines, nodeThen, nodes}
 use Rattle.layout.specs.WellFormed.{LinesFit}
 use Rattle.layout.specs.Steps.{recordAt, recordsFrom}

@@ -1,9 +1,8 @@
 -- The rod's answer on the listing of a tree is the tree's value; every sound listing is such a listing.
 use Prim.Native.Nat.{ℕ, _≤_}
-use mathlib.Core.Bool.{Bool}
-use mathlib.Core.List.{List, [], _∷_, _++_, append-nil}
+use mathlib.Core.List.{List, [], append-nil}
 use mathlib.Core.Path.{_≡_, refl, sym, ap, _∙_}
-use Rattle.answers.specs.Answers.{Answer, result}
+use Rattle.answers.specs.Answers.{result}
 use Rattle.arith.specs.Trees.{postfix, treeValue, run}
 use Rattle.arith.proofs.Trees.{run-tree}
 use Rattle.layout.specs.Records.{words}

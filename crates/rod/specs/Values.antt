@@ -4,9 +4,9 @@ use mathlib.Core.Bool.{Bool, true, false}
 use mathlib.Core.List.{List, [], _∷_}
 use mathlib.Core.Path.{_≡_}
 use lib.ListN.{length, getD}
-use Rattle.answers.specs.Answers.{Answer, result}
+use Rattle.answers.specs.Answers.{result}
 use Rattle.arith.specs.Trees.{run}
-use Rattle.layout.specs.Records.{Record, Join, and, or, bit}
+use Rattle.layout.specs.Records.{Join, and, or, bit}
 use Rattle.layout.specs.Judgement.{SoFar, judged}
 use Rattle.layout.specs.Nodes.{ListedPolicy, leadingLines, nodes}
 use Rattle.layout.specs.Steps.{recordsFrom}

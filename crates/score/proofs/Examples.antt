@@ -1,9 +1,8 @@
 -- Computed examples of the scored decision on a book's bytes: refusal 7, after every refusal of the book.
-use Prim.Native.Nat.{ℕ}
 use Prim.Native.String.{String, _++_}
-use mathlib.Core.Bool.{Bool, true, false}
+use mathlib.Core.Bool.{true, false}
 use mathlib.Core.Path.{_≡_, refl}
-use Rattle.answers.specs.Answers.{Answer, result, refused}
+use Rattle.answers.specs.Answers.{result, refused}
 use Rattle.book.specs.Text.{bytes}
 use Rattle.score.specs.Decisions.{scoredAnswer}
 use Rattle.score.specs.Computing.{scoreComputes}

@@ -3,7 +3,6 @@ use Prim.Native.Nat.{ℕ}
 use mathlib.Core.Bool.{Bool}
 use mathlib.Core.List.{List}
 use Rattle.answers.specs.Answers.{Answer, result, onResult}
-use Rattle.peal.specs.Policies.{Book}
 use Rattle.peal.specs.Score.{decision}
 use Rattle.book.specs.Books.{asked}
 

@@ -1,11 +1,10 @@
 -- "One book in full", and cases a to j of "Corners held fast" in the order of the table: each one computed comparison.
-use Prim.Native.Nat.{ℕ}
 use Prim.Native.String.{String, _++_}
 use mathlib.Core.Path.{_≡_, refl}
-use mathlib.Core.List.{List, [], _∷_}
-use lib.IntN.{ℤ, pos}
-use Rattle.answers.specs.Answers.{Answer, result}
-use Rattle.checks.specs.Checks.{Choice, both}
+use mathlib.Core.List.{[], _∷_}
+use lib.IntN.{pos}
+use Rattle.answers.specs.Answers.{result}
+use Rattle.checks.specs.Checks.{both}
 use Rattle.peal.specs.Score.{scaled}
 use Rattle.worked.specs.Computing as W
 use Rattle.worked.specs.Computing.{listing, decides, scores, chooses, _&_, allCompute}

@@ -1,7 +1,6 @@
 -- `layout::join_step`: each return by the test that led there.
 use borrow.Author.Needs.{needs}
 use native.Mathlib.Omega.{arith}
-use mathlib.Core.Path.{_≡_, refl, sym, ap}
 use Rattle.layout.proofs.StepLaws.{join-mask, join-lines, join-next, join-few, join-kept}
 use Rattle.layout.proofs.join_step.Statement.{statement}
 use Rattle.layout.proofs.join_step.Tie as tie

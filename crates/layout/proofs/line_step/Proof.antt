@@ -1,7 +1,6 @@
 -- `layout::line_step`: each return by the test that led there.
 use borrow.Author.Needs.{needs}
 use native.Mathlib.Omega.{arith}
-use mathlib.Core.Path.{_∙_, sym}
 use Rattle.layout.proofs.StepLaws.{line-outside, line-lines, line-next, line-kept}
 use Rattle.layout.proofs.line_step.Statement.{statement}
 use Rattle.layout.proofs.line_step.Tie as tie

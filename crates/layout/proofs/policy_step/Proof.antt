@@ -1,7 +1,6 @@
 -- `layout::policy_step`: each return by the test that led there.
 use borrow.Author.Needs.{needs}
 use native.Mathlib.Omega.{arith}
-use mathlib.Core.Path.{_≡_, refl, sym, ap}
 use Rattle.layout.proofs.StepLaws.{policy-mask, policy-lines, policy-next, policy-many, policy-kept}
 use Rattle.layout.proofs.policy_step.Statement.{statement}
 use Rattle.layout.proofs.policy_step.Tie as tie

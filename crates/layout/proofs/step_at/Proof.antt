@@ -1,6 +1,5 @@
 -- `layout::step_at`: the parts together are a step of the judged.
-use native.Mathlib.Omega.{arith}
-use mathlib.Core.Path.{_≡_, refl, sym, ap, _∙_}
+use mathlib.Core.Path.{refl, ap}
 use Rattle.layout.specs.Records.{and, or}
 use Rattle.layout.specs.Steps.{kindMeaning}
 use Rattle.layout.proofs.Judging.{step-line, step-join, step-policy, step-unknown}

@@ -1,6 +1,4 @@
 -- `signals::bit`: a shift of 1 by less than the width loses no bit.
-use Prim.Native.Nat.{ℕ, _+_, _^_}
-use mathlib.Core.Path.{_∙_, ap}
 use native.Mathlib.Omega.{arith}
 use borrow.Author.Needs.{needs}
 use Rattle.arith.proofs.Bits.{bit-is}
