@@ -1,4 +1,5 @@
 pub mod Tests
+pub mod Padding
 pub mod Bits
 pub mod Trees
 pub mod Order

@@ -1,7 +1,8 @@
 -- Tests over lists, and lists made from lists.
-use Prim.Native.Nat.{ℕ, zero, suc}
+use Prim.Native.Nat.{ℕ, zero, suc, _-_}
 use mathlib.Core.Bool.{Bool, true, false, cond, _&&_, _||_}
 use mathlib.Core.List.{List, [], _∷_, _++_, map}
+use lib.ListN.{length, replicate}
 
 module _ {A : Type 0} where
   -- every member passes the test
@@ -28,3 +29,7 @@ module _ {A : Type 0} where
 abbrev pub below : ℕ → List ℕ
 below zero = []
 below (suc n) = n ∷ below n
+
+-- n cells: the list, and then z in the cells beyond it
+unfoldable pub padded {ℓ} : {A : Type ℓ} → ℕ → A → List A → List A
+padded n z xs = xs ++ replicate (n - length xs) z

@@ -20,9 +20,13 @@ pub record BookSoFar : Type 0 where
   pub book : Book
   pub inRules : Bool
 
+-- the book with nothing in it
+unfoldable pub emptyBook : Book
+emptyBook = record { policies = []; conditions = [] }
+
 -- before the first line
 unfoldable pub noLine : BookSoFar
-noLine = record { book = record { policies = []; conditions = [] }; inRules = false }
+noLine = record { book = emptyBook; inRules = false }
 
 -- the policy that a rule is added to, the last one
 unfoldable pub lastPolicy : Book → Policy
@@ -88,10 +92,15 @@ defaultOf op (some d) = d
 unfoldable pub withRule : Policy → Rule → Policy
 withRule p r = record { operator = p .operator; default = p .default; rules = p .rules ++ (r ∷ []) }
 
--- the book with other policies, and with one condition more
+-- the book with other policies
 unfoldable pub withPolicies : Book → List Policy → Book
 withPolicies b ps = record { policies = ps; conditions = b .conditions }
 
+-- the book with its last policy changed
+unfoldable pub withLast : Book → Policy → Book
+withLast b p = withPolicies b (set (b .policies) (length (b .policies) - 1) p)
+
+-- the book with one condition more
 unfoldable pub withCondition : Book → Condition → Book
 withCondition b c = record { policies = b .policies; conditions = b .conditions ++ (c ∷ []) }
 
@@ -99,9 +108,7 @@ withCondition b c = record { policies = b .policies; conditions = b .conditions 
 unfoldable pub bookWith : BookSoFar → Form → Book
 bookWith so (policy op d) =
     withPolicies (so .book) (so .book .policies ++ (record { operator = op; default = defaultOf op d; rules = [] } ∷ []))
-bookWith so (rule s v) =
-    withPolicies (so .book)
-    (set (so .book .policies) (length (so .book .policies) - 1) (withRule (lastPolicy (so .book)) (record { signal = s; score = v })))
+bookWith so (rule s v) = withLast (so .book) (withRule (lastPolicy (so .book)) (record { signal = s; score = v }))
 bookWith so (condition c t e) = withCondition (so .book) (record { sense = c; threshold = t; expression = e })
 
 -- an `r` may follow a `p` or an `r`

@@ -4,5 +4,8 @@ pub mod Expressions
 pub mod Forms
 pub mod Acceptance
 pub mod Books
+pub mod Spelling
+pub mod Codes
+pub mod Stored
 pub mod Meaning
 pub mod Computing

@@ -1,4 +1,12 @@
 // Books of evidence policies, as text.
+mod numbers;
+mod stored;
+mod text;
+mod words;
+
+pub use stored::Book;
+pub use stored::Condition;
+pub use stored::Policy;
 
 // Why a line is refused, in the order in which a line is tried.
 pub enum Reason {

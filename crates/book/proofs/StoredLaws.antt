@@ -1,0 +1,132 @@
+-- What a change of the definitions' book does to the stored one.
+use Prim.Native.Nat.{ℕ, _+_, _-_, _≤_, _<_}
+use mathlib.Core.List.{List, [], _∷_, _++_, map, map-append}
+use mathlib.Core.Path.{_≡_, refl, sym, ap, _∙_}
+use native.Mathlib.Omega.{arith}
+use lib.IntN.{ℤ, pos}
+use lib.ListN.{length, getD, set, length-append, length-map, length-set, List·getD-map}
+use Rattle.arith.specs.Lists.{padded}
+use Rattle.arith.proofs.Padding.{padded-more, padded-set, padded-get}
+use Rattle.peal.specs.Policies.{Rule, Policy, Condition, Book, policyAt, emptyPolicy}
+use Rattle.peal.specs.declared.Operator.{Operator}
+use Rattle.book.specs.Acceptance.{lastPolicy, withRule, withPolicies, withLast, withCondition}
+use Rattle.book.specs.Stored.{storedPolicy, storedCondition, noPolicy, noCondition, storedBook, LastHasRoom}
+use Rattle.book.specs.declared.stored.Policy.{Policy as StoredPolicy}
+use Rattle.book.specs.declared.stored.Condition.{Condition as StoredCondition}
+use Rattle.book.specs.declared.stored.Book.{Book as StoredBook}
+
+-- a mapped list in cells: one member more
+mapped-more : {A B : Type 0} (f : A → B) (n : ℕ) (z : B) (xs : List A) (x : A) → length xs < n
+    → set (padded n z (map f xs)) (length xs) (f x) ≡ padded n z (map f (xs ++ (x ∷ [])))
+mapped-more f n z xs x h =
+    ap (λ (k : ℕ). set (padded n z (map f xs)) k (f x)) (sym (length-map xs f))
+    ∙ padded-more n z (map f xs) (f x) (omega (arith, length-map xs f))
+    ∙ ap (padded n z) (sym (map-append f xs (x ∷ [])))
+
+more-length : {A : Type 0} (xs : List A) (x : A) → length xs + 1 ≡ length (xs ++ (x ∷ []))
+more-length xs x = sym (length-append xs (x ∷ []))
+
+map-set : {A B : Type 0} (f : A → B) (l : List A) (i : ℕ) (x : A) → set (map f l) i (f x) ≡ map f (set l i x)
+map-set f [] i x = refl
+map-set f (y ∷ l) ℕ.zero x = refl
+map-set {B = B} f (y ∷ l) (ℕ.suc i) x = ap {B = List B} (λ m. f y ∷ m) (map-set f l i x)
+
+-- a rule more
+pub stored-rule : (p : StoredPolicy) (q : Policy) (s : ℕ) (v : ℤ) → p ≡ storedPolicy q → p .count < 16
+    → _≡_ {A = StoredPolicy}
+    (record { operator = p .operator; default = p .default; count = p .count + 1; signals = set (p .signals) (p .count) s; scores = set (p .scores) (p .count) v })
+    (storedPolicy (withRule q (record { signal = s; score = v })))
+unfolding storedPolicy withRule
+stored-rule p q s v e h =
+    let r : Rule = record { signal = s; score = v } in
+    let small : length (q .rules) < 16 = omega (arith, ap (λ (x : StoredPolicy). x .count) e) in
+    ap (λ (x : StoredPolicy). record { operator = x .operator; default = x .default; count = x .count + 1; signals = set (x .signals) (x .count) s; scores = set (x .scores) (x .count) v }) e
+    ∙ (λ i.
+    record {
+      operator = q .operator;
+      default = q .default;
+      count = more-length (q .rules) r i;
+      signals = mapped-more (λ (x : Rule). x .signal) 16 0 (q .rules) r small i;
+      scores = mapped-more (λ (x : Rule). x .score) 16 (pos 0) (q .rules) r small i;
+    })
+
+-- a policy more
+pub stored-policy : (b : StoredBook) (k : Book) (p : Policy) → b ≡ storedBook k → b .opened < 16
+    → _≡_ {A = StoredBook}
+    (record { opened = b .opened + 1; asked = b .asked; policies = set (b .policies) (b .opened) (storedPolicy p); conditions = b .conditions })
+    (storedBook (withPolicies k (k .policies ++ (p ∷ []))))
+unfolding storedBook withPolicies
+stored-policy b k p e h =
+    let small : length (k .policies) < 16 = omega (arith, ap (λ (x : StoredBook). x .opened) e) in
+    ap (λ (x : StoredBook). record { opened = x .opened + 1; asked = x .asked; policies = set (x .policies) (x .opened) (storedPolicy p); conditions = x .conditions }) e
+    ∙ (λ i.
+    record {
+      opened = more-length (k .policies) p i;
+      asked = length (k .conditions);
+      policies = mapped-more storedPolicy 16 noPolicy (k .policies) p small i;
+      conditions = padded 8 noCondition (map storedCondition (k .conditions));
+    })
+
+-- a condition more
+pub stored-condition : (b : StoredBook) (k : Book) (d : Condition) → b ≡ storedBook k → b .asked < 8
+    → _≡_ {A = StoredBook}
+    (record { opened = b .opened; asked = b .asked + 1; policies = b .policies; conditions = set (b .conditions) (b .asked) (storedCondition d) })
+    (storedBook (withCondition k d))
+unfolding storedBook withCondition
+stored-condition b k d e h =
+    let small : length (k .conditions) < 8 = omega (arith, ap (λ (x : StoredBook). x .asked) e) in
+    ap (λ (x : StoredBook). record { opened = x .opened; asked = x .asked + 1; policies = x .policies; conditions = set (x .conditions) (x .asked) (storedCondition d) }) e
+    ∙ (λ i.
+    record {
+      opened = length (k .policies);
+      asked = more-length (k .conditions) d i;
+      policies = padded 16 noPolicy (map storedPolicy (k .policies));
+      conditions = mapped-more storedCondition 8 noCondition (k .conditions) d small i;
+    })
+
+-- the last policy
+pub stored-last : (b : StoredBook) (k : Book) (d : StoredPolicy) → b ≡ storedBook k → 0 < b .opened → getD (b .policies) (b .opened - 1) d ≡ storedPolicy (lastPolicy k)
+unfolding storedBook lastPolicy policyAt
+stored-last b k d e h =
+    let some : 0 < length (k .policies) = omega (arith, ap (λ (x : StoredBook). x .opened) e) in
+    let n : ℕ = length (k .policies) - 1 in
+    let within : n < length (map storedPolicy (k .policies)) = omega (arith, length-map (k .policies) storedPolicy) in
+    ap (λ (x : StoredBook). getD (x .policies) (x .opened - 1) d) e
+    ∙ padded-get 16 noPolicy (map storedPolicy (k .policies)) n d within
+    ∙ any-default (map storedPolicy (k .policies)) n d (storedPolicy emptyPolicy) within
+    ∙ List·getD-map storedPolicy (k .policies) n emptyPolicy
+  where
+    any-default : (l : List StoredPolicy) (i : ℕ) (x y : StoredPolicy) → i < length l → getD l i x ≡ getD l i y
+    any-default [] i x y h = absurd (omega arith)
+    any-default (z ∷ l) ℕ.zero x y h = refl
+    any-default (z ∷ l) (ℕ.suc i) x y h = any-default l i x y (omega arith)
+
+-- the last policy changed
+pub stored-change : (b : StoredBook) (k : Book) (p : Policy) → b ≡ storedBook k → 0 < b .opened
+    → _≡_ {A = StoredBook}
+    (record { opened = b .opened; asked = b .asked; policies = set (b .policies) (b .opened - 1) (storedPolicy p); conditions = b .conditions })
+    (storedBook (withLast k p))
+unfolding storedBook withLast withPolicies
+stored-change b k p e h =
+    let n : ℕ = length (k .policies) - 1 in
+    let within : n < length (map storedPolicy (k .policies)) = omega (arith, length-map (k .policies) storedPolicy, ap (λ (x : StoredBook). x .opened) e) in
+    ap (λ (x : StoredBook). record { opened = x .opened; asked = x .asked; policies = set (x .policies) (x .opened - 1) (storedPolicy p); conditions = x .conditions }) e
+    ∙ (λ i.
+    record {
+      opened = sym (length-set (k .policies) n p) i;
+      asked = length (k .conditions);
+      policies = (padded-set 16 noPolicy (map storedPolicy (k .policies)) n (storedPolicy p) within ∙ ap (padded 16 noPolicy) (map-set storedPolicy (k .policies) n p)) i;
+      conditions = padded 8 noCondition (map storedCondition (k .conditions));
+    })
+
+-- what the code asks of a book whose last policy has room
+module _ (b : StoredBook) (h : LastHasRoom b) where
+  pub room-opened : b .opened ≡ length (h .book .policies)
+  unfolding storedBook
+  room-opened = ap (λ (x : StoredBook). x .opened) (h .held)
+
+  pub room-count : (d : StoredPolicy) → getD (b .policies) (b .opened - 1) d .count < 16
+  unfolding storedPolicy
+  room-count d =
+      let last = stored-last b (h .book) d (h .held) (omega (arith, room-opened, h .some)) in
+      omega (arith, ap (λ (x : StoredPolicy). x .count) last, h .room)

@@ -1,0 +1,18 @@
+-- `book::stored::empty_book`: every cell is empty.
+use Rattle.arith.specs.Lists.{padded}
+use Rattle.peal.specs.Policies.{emptyPolicy}
+use Rattle.book.specs.Acceptance.{emptyBook}
+use Rattle.book.specs.Stored.{noPolicy, noCondition, storedBook}
+use borrow.Author.Needs.{needs}
+use Rattle.book.proofs.stored.empty_book.Statement.{statement}
+use Rattle.book.proofs.stored.empty_book.Tie as tie
+
+new-policy-requires : tie.Need-new-policy-requires
+new-policy-requires c κs = search needs
+
+returns : tie.Need-returns
+unfolding storedBook emptyBook padded noPolicy noCondition emptyPolicy
+returns c = rw (c .new-policy .ensures)
+
+pub empty-book-spec : {M : Type 1} → statement M
+empty-book-spec = tie.close (tie.spec new-policy-requires returns)

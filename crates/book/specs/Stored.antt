@@ -1,0 +1,60 @@
+-- The book as the code keeps it. Cells beyond the counts are zeros.
+use Prim.Native.Nat.{_≤_, _<_}
+use mathlib.Core.List.{List, [], map}
+use lib.IntN.{ℤ, pos}
+use mathlib.Core.Path.{_≡_}
+use lib.ListN.{length, replicate}
+use Rattle.arith.specs.Lists.{padded}
+use Rattle.peal.specs.Policies.{Rule, Policy, Condition, Book, emptyPolicy}
+use Rattle.peal.specs.declared.Sense.the-variants.{Above}
+use Rattle.book.specs.Codes.{codes}
+use Rattle.book.specs.Acceptance.{lastPolicy}
+use Rattle.book.specs.declared.stored.Policy.{Policy as StoredPolicy}
+use Rattle.book.specs.declared.stored.Condition.{Condition as StoredCondition}
+use Rattle.book.specs.declared.stored.Book.{Book as StoredBook}
+
+-- a policy: its rules as two arrays of 16
+unfoldable pub storedPolicy : Policy → StoredPolicy
+storedPolicy p =
+    record {
+      operator = p .operator;
+      default = p .default;
+      count = length (p .rules);
+      signals = padded 16 0 (map (λ (r : Rule). r .signal) (p .rules));
+      scores = padded 16 (pos 0) (map (λ (r : Rule). r .score) (p .rules));
+    }
+
+-- a condition: the codes of its expression in an array of 31
+unfoldable pub storedCondition : Condition → StoredCondition
+storedCondition c =
+    record {
+      sense = c .sense;
+      threshold = c .threshold;
+      length = length (codes (c .expression));
+      codes = padded 31 0 (codes (c .expression));
+    }
+
+-- a cell with no policy, and one with no condition
+unfoldable pub noPolicy : StoredPolicy
+noPolicy = storedPolicy emptyPolicy
+
+unfoldable pub noCondition : StoredCondition
+noCondition = record { sense = Above; threshold = pos 0; length = 0; codes = replicate 31 0 }
+
+-- a book: 16 policies and 8 conditions
+unfoldable pub storedBook : Book → StoredBook
+storedBook b =
+    record {
+      opened = length (b .policies);
+      asked = length (b .conditions);
+      policies = padded 16 noPolicy (map storedPolicy (b .policies));
+      conditions = padded 8 noCondition (map storedCondition (b .conditions));
+    }
+
+-- the book has a last policy, with fewer than 16 rules
+pub record LastHasRoom (b : StoredBook) : Type 0 where
+  pub book : Book
+  pub held : b ≡ storedBook book
+  pub some : 0 < length (book .policies)
+  pub atMost : length (book .policies) ≤ 16
+  pub room : length (lastPolicy book .rules) < 16
