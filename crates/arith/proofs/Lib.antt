@@ -1,5 +1,6 @@
 pub mod Tests
 pub mod Padding
+pub mod Distinct
 pub mod Bits
 pub mod Trees
 pub mod Order

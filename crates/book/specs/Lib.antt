@@ -5,7 +5,9 @@ pub mod Forms
 pub mod Acceptance
 pub mod Books
 pub mod Spelling
+pub mod LineMeaning
 pub mod Codes
 pub mod Stored
 pub mod Meaning
+pub mod Judged
 pub mod Computing

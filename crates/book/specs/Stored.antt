@@ -7,7 +7,7 @@ use lib.ListN.{length, replicate}
 use Rattle.arith.specs.Lists.{padded}
 use Rattle.peal.specs.Policies.{Rule, Policy, Condition, Book, emptyPolicy}
 use Rattle.peal.specs.declared.Sense.the-variants.{Above}
-use Rattle.book.specs.Codes.{codes}
+use Rattle.book.specs.Codes.{codesOf}
 use Rattle.book.specs.Acceptance.{lastPolicy}
 use Rattle.book.specs.declared.stored.Policy.{Policy as StoredPolicy}
 use Rattle.book.specs.declared.stored.Condition.{Condition as StoredCondition}
@@ -30,8 +30,8 @@ storedCondition c =
     record {
       sense = c .sense;
       threshold = c .threshold;
-      length = length (codes (c .expression));
-      codes = padded 31 0 (codes (c .expression));
+      length = length (codesOf (c .expression));
+      codes = padded 31 0 (codesOf (c .expression));
     }
 
 -- a cell with no policy, and one with no condition

@@ -1,4 +1,7 @@
 // Books of evidence policies, as text.
+mod acceptance;
+mod expressions;
+mod lines;
 mod numbers;
 mod stored;
 mod text;

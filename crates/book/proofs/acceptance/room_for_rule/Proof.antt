@@ -1,0 +1,41 @@
+-- `book::acceptance::room_for_rule`: each operator by its arm.
+use mathlib.Core.Path.{ap, sym}
+use Prim.Native.Nat.{ℕ}
+use lib.Dec.{ltb}
+use Rattle.book.specs.Acceptance.{roomForRule}
+use borrow.Author.Needs.{needs}
+use Rattle.book.proofs.acceptance.room_for_rule.Statement.{statement}
+use Rattle.book.proofs.acceptance.room_for_rule.Tie as tie
+
+enum-told : tie.Need-enum-told
+enum-told c = search needs
+
+enum-told-2 : tie.Need-enum-told-2
+enum-told-2 c = search needs
+
+enum-told-3 : tie.Need-enum-told-3
+enum-told-3 c = search needs
+
+enum-told-4 : tie.Need-enum-told-4
+enum-told-4 c = search needs
+
+returns : tie.Need-returns
+unfolding roomForRule
+returns c = λ rules e. rw (c .enum-told .given .1, e)
+
+returns-2 : tie.Need-returns-2
+unfolding roomForRule
+returns-2 c = λ rules e. rw (c .enum-told2 .given .1)
+
+returns-3 : tie.Need-returns-3
+unfolding roomForRule
+returns-3 c = λ rules e. rw (c .enum-told3 .given .1)
+
+returns-4 : tie.Need-returns-4
+unfolding roomForRule
+returns-4 c = λ rules e. rw (c .enum-told4 .given .1)
+
+pub room-for-rule-spec : {M : Type 1} → statement M
+room-for-rule-spec =
+    tie.close
+    (tie.spec enum-told enum-told-2 enum-told-3 enum-told-4 returns returns-2 returns-3 returns-4)

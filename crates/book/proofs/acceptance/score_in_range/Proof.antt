@@ -1,0 +1,66 @@
+-- `book::acceptance::score_in_range`: each operator by its arm.
+use mathlib.Core.Path.{_∙_, ap}
+use lib.IntN.{pos, negℤ}
+use mir.Syntax.{w32}
+use mir.ValLaws.{toZ-ofZ}
+use Rattle.book.specs.Acceptance.{within, scoreInRange}
+use borrow.Author.Needs.{needs}
+use Rattle.book.proofs.acceptance.score_in_range.Statement.{statement}
+use Rattle.book.proofs.acceptance.score_in_range.Tie as tie
+
+enum-told : tie.Need-enum-told
+enum-told c = search needs
+
+within-requires : tie.Need-within-requires
+within-requires c κs = search needs
+
+enum-told-2 : tie.Need-enum-told-2
+enum-told-2 c = search needs
+
+within-requires-2 : tie.Need-within-requires-2
+within-requires-2 c κs = search needs
+
+enum-told-3 : tie.Need-enum-told-3
+enum-told-3 c = search needs
+
+within-requires-3 : tie.Need-within-requires-3
+within-requires-3 c κs = search needs
+
+enum-told-4 : tie.Need-enum-told-4
+enum-told-4 c = search needs
+
+within-requires-4 : tie.Need-within-requires-4
+within-requires-4 c κs = search needs
+
+returns : tie.Need-returns
+unfolding scoreInRange
+returns c = rw (c .before .enum-told .given .1) (c .within .ensures ∙ ap (within (negℤ (pos 10000)) (pos 10000)) (toZ-ofZ w32 _ (c .before .before .before .fits .v)))
+
+returns-2 : tie.Need-returns-2
+unfolding scoreInRange
+returns-2 c = rw (c .before .enum-told2 .given .1) (c .within2 .ensures ∙ ap (within (negℤ (pos 10000)) (pos 10000)) (toZ-ofZ w32 _ (c .before .before .before .fits .v)))
+
+returns-3 : tie.Need-returns-3
+unfolding scoreInRange
+returns-3 c = rw (c .before .enum-told3 .given .1) (c .within3 .ensures ∙ ap (within (pos 0) (pos 10000)) (toZ-ofZ w32 _ (c .before .before .before .fits .v)))
+
+returns-4 : tie.Need-returns-4
+unfolding scoreInRange
+returns-4 c = rw (c .before .enum-told4 .given .1) (c .within4 .ensures ∙ ap (within (pos 0) (pos 100)) (toZ-ofZ w32 _ (c .before .before .before .fits .v)))
+
+pub score-in-range-spec : {M : Type 1} → statement M
+score-in-range-spec =
+    tie.close
+    (tie.spec
+    enum-told
+    within-requires
+    enum-told-2
+    within-requires-2
+    enum-told-3
+    within-requires-3
+    enum-told-4
+    within-requires-4
+    returns
+    returns-2
+    returns-3
+    returns-4)

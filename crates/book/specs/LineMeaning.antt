@@ -1,0 +1,34 @@
+-- What the reader of a line answers.
+use Prim.Native.Nat.{ℕ, _≤_}
+use mathlib.Core.List.{List}
+use mathlib.Core.Option.{Option, none, some}
+use mathlib.Core.Path.{_≡_}
+use lib.ListN.{length, drop}
+use Rattle.arith.specs.Options.{_>>=_}
+use Rattle.book.specs.Expressions.{expression}
+use Rattle.book.specs.Forms.{Form, policy, rule, condition, formOf}
+use Rattle.book.specs.declared.lines.Line.the-variants.{Policy, BarePolicy, Rule, Condition}
+use Rattle.book.specs.declared.lines.LineRead.{LineRead}
+use Rattle.book.specs.declared.lines.LineRead.the-variants.{Good, NoForm}
+
+-- the form that was read; a condition's expression is what stands from its start on
+abbrev pub lineMeaning : List ℕ → LineRead → Option Form
+lineMeaning line (Good (Policy o d)) = some (policy o (some d))
+lineMeaning line (Good (BarePolicy o)) = some (policy o none)
+lineMeaning line (Good (Rule s v)) = some (rule s v)
+lineMeaning line (Good (Condition c t i)) = do
+  e ← expression (drop i line)
+  some (condition c t e)
+lineMeaning line NoForm = none
+
+-- a condition's expression begins in the line, behind six bytes at least
+abbrev pub StartIn : List ℕ → LineRead → Type 0
+StartIn line (Good (Policy o d)) = Unit {0}
+StartIn line (Good (BarePolicy o)) = Unit {0}
+StartIn line (Good (Rule s v)) = Unit {0}
+StartIn line (Good (Condition c t i)) = (6 ≤ i) × (i ≤ length line)
+StartIn line NoForm = Unit {0}
+
+-- what is read of a line is the form that these fields have
+abbrev pub Says : List ℕ → List (List ℕ) → LineRead → Type 0
+Says line fs r = (lineMeaning line r ≡ formOf fs) × StartIn line r
