@@ -7,21 +7,7 @@ use native.Mathlib.Omega.{arith}
 use lib.Dec.{eqb}
 use lib.ListN.{length}
 use borrow.Author.Tests.{eqb-true, eqb-false, ne-eqb}
-use Rattle.arith.specs.Lists.{any}
-
--- x is in the list
-abbrev pub isIn : ℕ → List ℕ → Bool
-isIn x l = any (λ y. eqb y x) l
-
--- each is below n
-abbrev pub AllBelow : ℕ → List ℕ → Type 0
-AllBelow n [] = Unit {0}
-AllBelow n (x ∷ l) = (x < n) × AllBelow n l
-
--- no two are equal
-abbrev pub Distinct : List ℕ → Type 0
-Distinct [] = Unit {0}
-Distinct (x ∷ l) = (isIn x l ≡ false) × Distinct l
+use Rattle.arith.specs.Lists.{isIn, AllBelow, Distinct}
 
 unfoldable without : ℕ → List ℕ → List ℕ
 without x [] = []

@@ -1,7 +1,9 @@
 -- Tests over lists, and lists made from lists.
-use Prim.Native.Nat.{ℕ, zero, suc, _-_}
+use Prim.Native.Nat.{ℕ, zero, suc, _-_, _<_}
 use mathlib.Core.Bool.{Bool, true, false, cond, _&&_, _||_}
 use mathlib.Core.List.{List, [], _∷_, _++_, map}
+use mathlib.Core.Path.{_≡_}
+use lib.Dec.{eqb}
 use lib.ListN.{length, replicate}
 
 module _ {A : Type 0} where
@@ -33,3 +35,17 @@ below (suc n) = n ∷ below n
 -- n cells: the list, and then z in the cells beyond it
 unfoldable pub padded {ℓ} : {A : Type ℓ} → ℕ → A → List A → List A
 padded n z xs = xs ++ replicate (n - length xs) z
+
+-- x is in the list
+abbrev pub isIn : ℕ → List ℕ → Bool
+isIn x l = any (λ y. eqb y x) l
+
+-- each is below n
+abbrev pub AllBelow : ℕ → List ℕ → Type 0
+AllBelow n [] = Unit {0}
+AllBelow n (x ∷ l) = (x < n) × AllBelow n l
+
+-- no two are equal
+abbrev pub Distinct : List ℕ → Type 0
+Distinct [] = Unit {0}
+Distinct (x ∷ l) = (isIn x l ≡ false) × Distinct l

@@ -22,6 +22,8 @@ use Rattle.book.specs.Acceptance.{BookSoFar, lastPolicy, inPlace, inCoun
 use Rattle.book.specs.Codes.{codeOf, codesOf}
 use Rattle.book.specs.Stored.{storedPolicy}
 use Rattle.book.specs.Judged.{after}
+use Rattle.book.specs.declared.Reason.{Reason}
+use Rattle.book.specs.declared.acceptance.Verdict.the-variants.{Fine, Refused}
 use Rattle.book.specs.declared.stored.Policy.{Policy as StoredPolicy}
 use Rattle.book.specs.declared.expressions.Parse.{Parse}
 use Rattle.book.proofs.ExpressionLaws.{codes-leaf, codes-join, take-padded}
@@ -48,6 +50,10 @@ module _ (n : ℕ) (so : BookSoFar) (f : Form) where
   pub accept-fine : inPlace so f ≡ true → inCount so f ≡ true → inRange so f ≡ true → isNew so f ≡ true → result (after so f) ≡ accept n so f
   unfolding accept after
   accept-fine a b c d = rw (a, b, c, d)
+
+-- a refusal is not fine
+pub not-fine : {X : Type 0} {r : Reason} → Refused r ≡ Fine → X
+not-fine h = let z : _≡_ {A = ℕ} 0 1 = cc in absurd (omega arith)
 
 -- ---- a policy
 

@@ -10,4 +10,5 @@ pub mod Codes
 pub mod Stored
 pub mod Meaning
 pub mod Judged
+pub mod Taken
 pub mod Computing

@@ -8,10 +8,11 @@ use Rattle.arith.specs.Lists.{padded}
 use Rattle.peal.specs.Policies.{Rule, Policy, Condition, Book, emptyPolicy}
 use Rattle.peal.specs.declared.Sense.the-variants.{Above}
 use Rattle.book.specs.Codes.{codesOf}
-use Rattle.book.specs.Acceptance.{lastPolicy}
+use Rattle.book.specs.Acceptance.{BookSoFar, lastPolicy}
 use Rattle.book.specs.declared.stored.Policy.{Policy as StoredPolicy}
 use Rattle.book.specs.declared.stored.Condition.{Condition as StoredCondition}
 use Rattle.book.specs.declared.stored.Book.{Book as StoredBook}
+use Rattle.book.specs.declared.stored.SoFar.{SoFar as StoredSoFar}
 
 -- a policy: its rules as two arrays of 16
 unfoldable pub storedPolicy : Policy → StoredPolicy
@@ -58,3 +59,7 @@ pub record LastHasRoom (b : StoredBook) : Type 0 where
   pub some : 0 < length (book .policies)
   pub atMost : length (book .policies) ≤ 16
   pub room : length (lastPolicy book .rules) < 16
+
+-- the book so far
+unfoldable pub storedSoFar : BookSoFar → StoredSoFar
+storedSoFar so = record { inside = so .inRules; book = storedBook (so .book) }

@@ -88,7 +88,7 @@ pub enum Verdict {
 }
 
 pub fn judge_policy(asked: usize, opened: usize, ranged: bool) -> Verdict
-    ensures { λ r. ⌜ PolicyJudged asked opened ranged r ⌝ }
+    ensures { λ r. ⌜ PolicyJudged asked opened ranged r × (r ≡ Verdict.Fine → opened < 16) ⌝ }
 {
     if 0 < asked {
         return Verdict::Refused(Reason::OutOfPlace);
@@ -128,7 +128,7 @@ pub fn judge_rule(inside: bool, p: Policy, signal: u32, score: i32) -> Verdict
 
 pub fn judge_condition(asked: usize, opened: usize, threshold: i32, p: Parse) -> Verdict
     requires { ⌜ (opened ≤ 16) × (p .length ≤ 31) ⌝ }
-    ensures { λ r. ⌜ ConditionJudged asked opened threshold p r ⌝ }
+    ensures { λ r. ⌜ ConditionJudged asked opened threshold p r × (r ≡ Verdict.Fine → asked < 8) ⌝ }
 {
     if asked >= 8 {
         return Verdict::Refused(Reason::TooMany);

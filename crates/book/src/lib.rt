@@ -3,10 +3,15 @@ mod acceptance;
 mod expressions;
 mod lines;
 mod numbers;
+mod reading;
 mod stored;
+mod taking;
 mod text;
 mod words;
 
+pub use reading::BookRead;
+pub use reading::check;
+pub use reading::read;
 pub use stored::Book;
 pub use stored::Condition;
 pub use stored::Policy;

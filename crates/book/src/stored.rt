@@ -32,6 +32,12 @@ pub struct Book {
     pub conditions: [Condition; 8],
 }
 
+// The book so far, and whether the line above is a `p` or an `r`.
+pub struct SoFar {
+    pub inside: bool,
+    pub book: Book,
+}
+
 // A policy with no rules.
 pub fn new_policy(operator: peal::Operator, default: i32) -> Policy
     ensures { λ r. ⌜ r ≡ storedPolicy (record { operator = operator; default = default; rules = [] }) ⌝ }

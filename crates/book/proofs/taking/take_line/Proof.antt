@@ -1,0 +1,154 @@
+-- `book::taking::take_line`: each form by the function that takes it; a line of no form is refused.
+use Prim.Native.Nat.{ℕ}
+use mathlib.Core.Option.{some, none}
+use mathlib.Core.Path.{_≡_, refl, sym, ap, subst, _∙_}
+use lib.IntN.{pos, negℤ}
+use mir.Syntax.{w32}
+use mir.Val.{toZ, ofZ}
+use Rattle.book.specs.Forms.{policy, rule, condition}
+use Rattle.book.specs.Acceptance.{within, defaultOf, defaultInRange}
+use Rattle.book.specs.LineMeaning.{lineMeaning, StartIn}
+use Rattle.book.specs.declared.lines.Line.{Line}
+use Rattle.book.specs.declared.lines.LineRead.the-variants.{Good}
+use Rattle.book.proofs.ExpressionLaws.{expression-found, expression-not-found}
+use Rattle.book.proofs.TakingLaws.{taken-form, taken-none, with-expression, with-none, taken-rule-at, taken-condition-at}
+use borrow.Author.Needs.{needs}
+use Rattle.book.proofs.taking.take_line.Statement.{statement}
+use Rattle.book.proofs.taking.take_line.Tie as tie
+
+-- what is kept of a number is the number
+default-kept : (c : tie.After-known-told2) → toZ w32 (ofZ w32 (c .before .l2 .given .0 .1 .0)) ≡ c .before .l2 .given .0 .1 .0
+default-kept c = search needs
+
+threshold-kept : (c : tie.After-known-told5) → toZ w32 (ofZ w32 (c .before .l5 .given .0 .1 .0)) ≡ c .before .l5 .given .0 .1 .0
+threshold-kept c = search needs
+
+read-line-requires : tie.Need-read-line-requires
+read-line-requires c κs = search needs
+
+enum-known-l : tie.Need-enum-known-l
+enum-known-l c = search needs
+
+enum-told : tie.Need-enum-told
+enum-told c = search needs
+
+returns : tie.Need-returns
+returns c =
+    let r = c .before .before in
+    let s = r .before .before in
+    λ n so e b. taken-none n so _ _ (sym (r .read-line .ensures .0) ∙ ap (lineMeaning (s .args .line .now)) (c .enum-told .given .1)) refl
+
+enum-known-l-2 : tie.Need-enum-known-l-2
+enum-known-l-2 c = search needs
+
+within-requires : tie.Need-within-requires
+within-requires c κs = search needs
+
+take-policy-requires : tie.Need-take-policy-requires
+take-policy-requires c κs = c .before .before .before .before .before .before .before .before .before .pre .0
+
+enum-known-l-3 : tie.Need-enum-known-l-3
+enum-known-l-3 c = search needs
+
+take-policy-requires-2 : tie.Need-take-policy-requires-2
+take-policy-requires-2 c κs = c .before .before .before .before .before .before .before .before .pre .0
+
+enum-known-l-4 : tie.Need-enum-known-l-4
+enum-known-l-4 c = search needs
+
+take-rule-requires : tie.Need-take-rule-requires
+take-rule-requires c κs = c .before .before .before .before .before .before .before .before .pre .0
+
+enum-known-l-5 : tie.Need-enum-known-l-5
+enum-known-l-5 c = search needs
+
+read-expression-requires : tie.Need-read-expression-requires
+read-expression-requires c κs =
+    let k = c .before in
+    let a = k .before .before .before in
+    let r = a .before .before in
+    let s = r .before .before in
+    let i = subst (StartIn (s .args .line .now)) (a .l .given .1 ∙ ap (λ (x : Line). Good x) (k .l5 .given .1)) (r .read-line .ensures .1) in
+    (s .pre .1, i .0, i .1)
+
+take-condition-requires : tie.Need-take-condition-requires
+take-condition-requires c κs = (c .before .before .before .before .before .before .before .before .before .before .pre .0, c .before .read-expression .ensures .few)
+
+returns-2 : tie.Need-returns-2
+unfolding defaultOf defaultInRange
+returns-2 c =
+    let k = c .before .before .before in
+    let a = k .before .before .before in
+    let r = a .before .before in
+    let s = r .before .before in
+    let f = sym (r .read-line .ensures .0) ∙ ap (lineMeaning (s .args .line .now)) (a .l .given .1) ∙ ap (λ (x : Line). lineMeaning (s .args .line .now) (Good x)) (k .l2 .given .1) in
+    let z = default-kept (c .before .before) in
+    λ n so e b.
+    taken-form n so _ _ _ f
+    (c .take-policy .ensures n so (some (k .l2 .given .0 .1 .0)) e b z (c .before .within .ensures ∙ ap (within (negℤ (pos 10000)) (pos 10000)) z))
+
+returns-3 : tie.Need-returns-3
+unfolding defaultOf defaultInRange
+returns-3 c =
+    let k = c .before .before in
+    let a = k .before .before .before in
+    let r = a .before .before in
+    let s = r .before .before in
+    let f = sym (r .read-line .ensures .0) ∙ ap (lineMeaning (s .args .line .now)) (a .l .given .1) ∙ ap (λ (x : Line). lineMeaning (s .args .line .now) (Good x)) (k .l3 .given .1) in
+    λ n so e b. taken-form n so _ _ _ f (c .take-policy2 .ensures n so none e b refl refl)
+
+returns-4 : tie.Need-returns-4
+returns-4 c =
+    let k = c .before .before in
+    let a = k .before .before .before in
+    let r = a .before .before in
+    let s = r .before .before in
+    let f = sym (r .read-line .ensures .0) ∙ ap (lineMeaning (s .args .line .now)) (a .l .given .1) ∙ ap (λ (x : Line). lineMeaning (s .args .line .now) (Good x)) (k .l4 .given .1) in
+    let z : toZ w32 (ofZ w32 (k .l4 .given .0 .1 .0)) ≡ k .l4 .given .0 .1 .0 = search needs in
+    λ n so e b. taken-form n so _ _ _ f (taken-rule-at n so _ _ _ _ z (c .take-rule .ensures n so e b))
+
+returns-5 : tie.Need-returns-5
+returns-5 c =
+    let k = c .before .before .before .before in
+    let a = k .before .before .before in
+    let r = a .before .before in
+    let s = r .before .before in
+    let f = sym (r .read-line .ensures .0) ∙ ap (lineMeaning (s .args .line .now)) (a .l .given .1) ∙ ap (λ (x : Line). lineMeaning (s .args .line .now) (Good x)) (k .l5 .given .1) in
+    let z = threshold-kept (c .before .before .before) in
+    let x = expression-found _ _ _ (c .before .before .read-expression .ensures) (c .before .if1 .taken) in
+    λ n so e b.
+    taken-form n so _ _ _ (f ∙ with-expression _ _ _ _ (x .found)) (taken-condition-at n so _ _ _ _ _ z (c .take-condition .ensures n so (x .tree) e b (x .count) (x .cells)))
+
+returns-6 : tie.Need-returns-6
+returns-6 c =
+    let k = c .before .before .before in
+    let a = k .before .before .before in
+    let r = a .before .before in
+    let s = r .before .before in
+    let f = sym (r .read-line .ensures .0) ∙ ap (lineMeaning (s .args .line .now)) (a .l .given .1) ∙ ap (λ (x : Line). lineMeaning (s .args .line .now) (Good x)) (k .l5 .given .1) in
+    let x = expression-not-found _ _ _ (c .before .read-expression .ensures) (c .if1 .left) in
+    λ n so e b. taken-none n so _ _ (f ∙ with-none _ _ _ x) refl
+
+pub take-line-spec : {M : Type 1} → statement M
+take-line-spec =
+    tie.close
+    (tie.spec
+    read-line-requires
+    enum-known-l
+    enum-told
+    returns
+    enum-known-l-2
+    within-requires
+    take-policy-requires
+    enum-known-l-3
+    take-policy-requires-2
+    enum-known-l-4
+    take-rule-requires
+    enum-known-l-5
+    read-expression-requires
+    take-condition-requires
+    returns-2
+    returns-3
+    returns-4
+    returns-5
+    returns-6)

@@ -1,0 +1,61 @@
+-- What taking a line into the book means, and what every book so far keeps to.
+use Prim.Native.Nat.{ℕ, _≤_, _<_}
+use mathlib.Core.Bool.{Bool, true}
+use mathlib.Core.List.{List, map}
+use mathlib.Core.Option.{Option}
+use mathlib.Core.Path.{_≡_}
+use lib.IntN.{ℤ}
+use lib.ListN.{length}
+use Rattle.answers.specs.Answers.{Answer, result, refused}
+use Rattle.peal.specs.Policies.{Rule, Expression}
+use Rattle.peal.specs.declared.Operator.{Operator}
+use Rattle.peal.specs.declared.Sense.{Sense}
+use Rattle.arith.specs.Lists.{padded, AllBelow, Distinct}
+use Rattle.book.specs.Forms.{Form, policy, rule, condition, form}
+use Rattle.book.specs.Acceptance.{BookSoFar, noLine, defaultOf, defaultInRange, lastPolicy, accept}
+use Rattle.book.specs.Books.{acceptForm}
+use Rattle.book.specs.Codes.{codesOf}
+use Rattle.book.specs.Stored.{storedSoFar}
+use Rattle.book.specs.Judged.{verdictMeaning}
+use Rattle.book.specs.declared.acceptance.Verdict.{Verdict}
+use Rattle.book.specs.declared.acceptance.Verdict.the-variants.{Fine}
+use Rattle.book.specs.declared.expressions.Parse.{Parse}
+use Rattle.book.specs.declared.stored.SoFar.{SoFar as StoredSoFar}
+use Rattle.book.specs.declared.taking.Taken.{Taken}
+
+-- the signals of some rules
+abbrev pub signalsOf : List Rule → List ℕ
+signalsOf rules = map (λ (r : Rule). r .signal) rules
+
+-- what every book so far keeps to: the limits, and different signals below 16 in the policy that rules are added to
+pub record Bounded (so : BookSoFar) : Type 0 where
+  pub policies : length (so .book .policies) ≤ 16
+  pub conditions : length (so .book .conditions) ≤ 8
+  pub some : so .inRules ≡ true → 0 < length (so .book .policies)
+  pub below : so .inRules ≡ true → AllBelow 16 (signalsOf (lastPolicy (so .book) .rules))
+  pub distinct : so .inRules ≡ true → Distinct (signalsOf (lastPolicy (so .book) .rules))
+
+-- a taken line n is what the definition's answer is
+abbrev pub TakenAs : ℕ → Answer BookSoFar → Taken → Type 0
+TakenAs n (result so) t = (t .verdict ≡ Fine) × (t .so ≡ storedSoFar so) × Bounded so
+TakenAs n (refused k v) t = verdictMeaning n (t .verdict) noLine ≡ refused k v
+
+-- the stored book so far is that of a bounded one
+abbrev pub Kept : StoredSoFar → Type 0
+Kept s = (so : BookSoFar) × (s ≡ storedSoFar so) × Bounded so
+
+-- a policy, a rule, a condition and a line, taken
+abbrev pub PolicyTaken : StoredSoFar → Operator → ℤ → Bool → Taken → Type 0
+PolicyTaken s o z ranged t =
+    (n : ℕ) (so : BookSoFar) (d : Option ℤ) → s ≡ storedSoFar so → Bounded so → z ≡ defaultOf o d → ranged ≡ defaultInRange d → TakenAs n (accept n so (policy o d)) t
+
+abbrev pub RuleTaken : StoredSoFar → ℕ → ℤ → Taken → Type 0
+RuleTaken s signal v t = (n : ℕ) (so : BookSoFar) → s ≡ storedSoFar so → Bounded so → TakenAs n (accept n so (rule signal v)) t
+
+abbrev pub ConditionTaken : StoredSoFar → Sense → ℤ → Parse → Taken → Type 0
+ConditionTaken s c t p r =
+    (n : ℕ) (so : BookSoFar) (e : Expression) → s ≡ storedSoFar so → Bounded so → p .length ≡ length (codesOf e) → p .codes ≡ padded 31 0 (codesOf e)
+    → TakenAs n (accept n so (condition c t e)) r
+
+abbrev pub LineTaken : StoredSoFar → List ℕ → Taken → Type 0
+LineTaken s line t = (n : ℕ) (so : BookSoFar) → s ≡ storedSoFar so → Bounded so → TakenAs n (acceptForm n so (form line)) t

@@ -1,0 +1,83 @@
+// A whole book: its lines, read from the top.
+use crate::Checked;
+use crate::Reason;
+use crate::Refusal;
+use crate::acceptance::Verdict;
+use crate::stored::Book;
+use crate::stored::SoFar;
+use crate::stored::empty_book;
+use crate::taking::take_line;
+use crate::text::next_byte;
+ghost use mathlib.Core.Path.{_≡_};
+ghost use Rattle.book.specs.Acceptance.{emptyBook};
+ghost use Rattle.book.specs.Books.{checked, read as readBook};
+ghost use Rattle.book.specs.Stored.{storedBook};
+ghost use Rattle.book.specs.Meaning.{checkedMeaning, bookOrEmpty};
+ghost use Rattle.book.specs.declared.Checked.the-variants.{Refused};
+
+// What a check of the book tells, and the book: the empty one where it is refused.
+pub struct BookRead {
+    pub answer: Checked,
+    pub book: Book,
+}
+
+fn refused(reason: Reason, line: usize) -> BookRead
+    ensures { λ r. ⌜ (r .answer ≡ Refused (record { reason = reason; line = line })) × (r .book ≡ storedBook emptyBook) ⌝ }
+{
+    let b = empty_book();
+    BookRead {
+        answer: Checked::Refused(Refusal {
+            reason: reason,
+            line: line,
+        }),
+        book: b,
+    }
+}
+
+pub fn read(bytes: &[u8]) -> BookRead
+    ensures { λ r. ⌜ (checkedMeaning (r .answer) ≡ checked (now (bytes .entry))) × (r .book ≡ storedBook (bookOrEmpty (readBook (now (bytes .entry))))) ⌝ }
+{
+    let n = bytes.len();
+    if 8192 < n {
+        return refused(Reason::TooLong, 0);
+    }
+    let b = empty_book();
+    let mut s = SoFar {
+        inside: false,
+        book: b,
+    };
+    let mut at = 0;
+    let mut line = 1;
+    while at < n {
+        let end = next_byte(bytes, at, 10);
+        if 128 < end - at {
+            return refused(Reason::TooLong, line);
+        }
+        if end == n {
+            return refused(Reason::NoForm, line);
+        }
+        let t = take_line(s, &bytes[at..end]);
+        let v = t.verdict;
+        if let Verdict::Refused(reason) = v {
+            return refused(reason, line);
+        }
+        s = t.so;
+        at = end + 1;
+        line += 1;
+    }
+    let whole = s.book;
+    BookRead {
+        answer: Checked::Accepted {
+            policies: whole.opened,
+            conditions: whole.asked,
+        },
+        book: whole,
+    }
+}
+
+pub fn check(bytes: &[u8]) -> Checked
+    ensures { λ r. ⌜ checkedMeaning r ≡ checked (now (bytes .entry)) ⌝ }
+{
+    let r = read(bytes);
+    r.answer
+}
