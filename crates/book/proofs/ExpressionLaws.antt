@@ -1,17 +1,16 @@
 -- Laws of expressions: what reading a set and a pair comes to, step by step, and what it adds to the codes.
-use Prim.Native.Nat.{ℕ, zero, suc, _+_, _-_, _*_, _^_, _≤_, _<_}
+use Prim.Native.Nat.{ℕ, zero, suc, _+_, _-_, _≤_, _<_}
 use mathlib.Core.Path.{_≡_, refl, sym, ap, subst, _∙_}
 use mathlib.Core.Bool.{Bool, true, false, cond, _&&_}
 use mathlib.Core.List.{List, [], _∷_, _++_, append-assoc, map, map-append}
 use mathlib.Core.Option.{Option, none, some}
 use native.Mathlib.Omega.{arith}
 use native.Mathlib.Numerals.{add-one}
-use native.Mathlib.Nat.{pow-le-pow-right, pow-suc, mul-le-mul-right}
 use borrow.Author.Tests.{leb-true}
-use lib.Dec.{leb, eqb, lit<}
-use lib.ListN.{length, take, drop, set, replicate, length-take, length-drop, length-append, length-replicate}
-use lib.Seq.{drop-drop, drop-cons, drop-length, take-suc-set, length-take-le, take-append-seam, set-at}
-use Rattle.arith.specs.Options.{_>>=_, if_then_}
+use lib.Dec.{leb, eqb}
+use lib.ListN.{length, take, drop, set, replicate, length-take, length-drop}
+use lib.Seq.{drop-drop, drop-cons, drop-length, take-suc-set, length-take-le, take-append-seam}
+use Rattle.arith.specs.Options.{_>>=_}
 use Rattle.arith.specs.Lists.{padded}
 use Rattle.arith.specs.Trees.{leaf, join, joining, postfix}
 use Rattle.arith.proofs.Padding.{padded-more, padded-length}

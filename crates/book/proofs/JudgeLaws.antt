@@ -18,7 +18,7 @@ use Rattle.peal.specs.Policies.{Rule, Policy, MinMax, smaller, larger, Expressi
 use Rattle.peal.specs.declared.Operator.{Operator}
 use Rattle.peal.specs.declared.Sense.{Sense}
 use Rattle.book.specs.Forms.{Form, policy, rule, condition}
-use Rattle.book.specs.Acceptance.{BookSoFar, lastPolicy, inPlace, inCount, roomForRule, within, defaultInRange, scoreInRange, mentionsBelow, inRange, isNew, bookWith, opensRules, accept}
+use Rattle.book.specs.Acceptance.{BookSoFar, lastPolicy, inPlace, inCount, roomForRule, within, defaultInRange, scoreInRange, mentionsBelow, inRange, isNew, accept}
 use Rattle.book.specs.Codes.{codeOf, codesOf}
 use Rattle.book.specs.Stored.{storedPolicy}
 use Rattle.book.specs.Judged.{after}

@@ -1,15 +1,14 @@
 -- Laws of reading a whole book: the lines one by one, and what the answer tells.
 use Prim.Native.Nat.{ℕ, _+_, _-_, _≤_, _<_}
 use mathlib.Core.Bool.{false}
-use mathlib.Core.List.{List, [], _∷_}
+use mathlib.Core.List.{List}
 use mathlib.Core.Logic.{⊎-elim}
-use mathlib.Core.Path.{_≡_, refl, sym, ap, subst, _∙_}
+use mathlib.Core.Path.{_≡_, refl, sym, ap, _∙_}
 use native.Mathlib.Nat.{eq-or-lt-of-le}
 use native.Mathlib.Omega.{arith}
 use lib.ListN.{length, take, drop, length-drop}
 use borrow.Author.Tests.{le-leb, lt-leb}
 use Rattle.answers.specs.Answers.{Answer, result, refused, onResult}
-use Rattle.peal.specs.Policies.{Book}
 use Rattle.book.specs.Text.{textLines}
 use Rattle.book.specs.Spelling.{upTo}
 use Rattle.book.specs.Forms.{form}
@@ -120,8 +119,8 @@ pub tells-refusal : (s : List ℕ) (k : Reason) (n : ℕ) (r : BookRead) → rea
 unfolding checked bookOrEmpty
 tells-refusal s k n r e h = (ap checkedMeaning (h .0) ∙ rw e, h .1 ∙ rw e)
 
-pub tells-book : (s : List ℕ) (so : BookSoFar) (kept : StoredSoFar) → kept ≡ storedSoFar so → read s ≡ result (so .book)
-    → Tells s (record { answer = Accepted (kept .book .opened) (kept .book .asked); book = kept .book })
+pub tells-book : (s : List ℕ) (so : BookSoFar) (kept : StoredSoFar) (r : BookRead) → kept ≡ storedSoFar so → read s ≡ result (so .book)
+    → (r .answer ≡ Accepted (kept .book .opened) (kept .book .asked)) × (r .book ≡ kept .book) → Tells s r
 unfolding checked bookOrEmpty storedSoFar storedBook
-tells-book s so kept h e =
-    (ap (λ (x : StoredSoFar). checkedMeaning (Accepted (x .book .opened) (x .book .asked))) h ∙ rw e, ap (λ (x : StoredSoFar). x .book) h ∙ rw e)
+tells-book s so kept r h e a =
+    (ap checkedMeaning (a .0) ∙ ap (λ (x : StoredSoFar). checkedMeaning (Accepted (x .book .opened) (x .book .asked))) h ∙ rw e, a .1 ∙ ap (λ (x : StoredSoFar). x .book) h ∙ rw e)

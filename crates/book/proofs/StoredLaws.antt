@@ -1,5 +1,5 @@
 -- What a change of the definitions' book does to the stored one.
-use Prim.Native.Nat.{ℕ, _+_, _-_, _≤_, _<_}
+use Prim.Native.Nat.{ℕ, _+_, _-_, _<_}
 use mathlib.Core.List.{List, [], _∷_, _++_, map, map-append}
 use mathlib.Core.Path.{_≡_, refl, sym, ap, _∙_}
 use native.Mathlib.Omega.{arith}
@@ -8,11 +8,9 @@ use lib.ListN.{length, getD, set, length-append, length-map, length-set, List·g
 use Rattle.arith.specs.Lists.{padded}
 use Rattle.arith.proofs.Padding.{padded-more, padded-set, padded-get}
 use Rattle.peal.specs.Policies.{Rule, Policy, Condition, Book, policyAt, emptyPolicy}
-use Rattle.peal.specs.declared.Operator.{Operator}
 use Rattle.book.specs.Acceptance.{lastPolicy, withRule, withPolicies, withLast, withCondition}
 use Rattle.book.specs.Stored.{storedPolicy, storedCondition, noPolicy, noCondition, storedBook, LastHasRoom}
 use Rattle.book.specs.declared.stored.Policy.{Policy as StoredPolicy}
-use Rattle.book.specs.declared.stored.Condition.{Condition as StoredCondition}
 use Rattle.book.specs.declared.stored.Book.{Book as StoredBook}
 
 -- a mapped list in cells: one member more

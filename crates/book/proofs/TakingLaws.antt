@@ -1,13 +1,13 @@
 -- A line that is accepted keeps the book so far within bounds; and the verdict of the code, as the definition's answer.
 use Prim.Native.Nat.{ℕ, _+_, _-_, _≤_, _<_}
-use mathlib.Core.Bool.{Bool, true, false, not, _&&_}
-use mathlib.Core.List.{List, [], _∷_, _++_, map, map-append}
+use mathlib.Core.Bool.{Bool, true, false}
+use mathlib.Core.List.{List, [], _∷_, _++_, map-append}
 use mathlib.Core.Option.{Option, none, some}
 use mathlib.Core.Path.{_≡_, refl, sym, ap, subst, _∙_}
 use native.Mathlib.Omega.{arith}
-use lib.Dec.{leb, ltb, eqb}
+use lib.Dec.{leb, eqb}
 use lib.IntN.{ℤ}
-use lib.ListN.{length, getD, set, length-append, length-set, length-map}
+use lib.ListN.{length, getD, length-append, length-set, length-map}
 use lib.Seq.{getD-set-same, getD-at}
 use borrow.Author.Tests.{leb-true, ltb-true, not-true}
 use Rattle.answers.specs.Answers.{Answer, result, refused, require}
@@ -25,7 +25,6 @@ use Rattle.book.specs.Codes.{codesOf}
 use Rattle.book.specs.Stored.{storedPolicy, storedCondition, storedBook, LastHasRoom, storedSoFar}
 use Rattle.book.specs.Judged.{verdictMeaning, after, Judged}
 use Rattle.book.specs.Taken.{signalsOf, Bounded, TakenAs}
-use Rattle.book.specs.Meaning.{reasonNumber}
 use Rattle.book.specs.declared.Reason.{Reason}
 use Rattle.book.specs.declared.Reason.the-variants.{NoForm, OutOfPlace}
 use Rattle.book.specs.declared.acceptance.Verdict.{Verdict}

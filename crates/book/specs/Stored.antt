@@ -1,7 +1,7 @@
 -- The book as the code keeps it. Cells beyond the counts are zeros.
 use Prim.Native.Nat.{_≤_, _<_}
-use mathlib.Core.List.{List, [], map}
-use lib.IntN.{ℤ, pos}
+use mathlib.Core.List.{map}
+use lib.IntN.{pos}
 use mathlib.Core.Path.{_≡_}
 use lib.ListN.{length, replicate}
 use Rattle.arith.specs.Lists.{padded}

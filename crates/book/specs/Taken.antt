@@ -11,13 +11,12 @@ use Rattle.peal.specs.Policies.{Rule, Expression}
 use Rattle.peal.specs.declared.Operator.{Operator}
 use Rattle.peal.specs.declared.Sense.{Sense}
 use Rattle.arith.specs.Lists.{padded, AllBelow, Distinct}
-use Rattle.book.specs.Forms.{Form, policy, rule, condition, form}
+use Rattle.book.specs.Forms.{policy, rule, condition, form}
 use Rattle.book.specs.Acceptance.{BookSoFar, noLine, defaultOf, defaultInRange, lastPolicy, accept}
 use Rattle.book.specs.Books.{acceptForm}
 use Rattle.book.specs.Codes.{codesOf}
 use Rattle.book.specs.Stored.{storedSoFar}
 use Rattle.book.specs.Judged.{verdictMeaning}
-use Rattle.book.specs.declared.acceptance.Verdict.{Verdict}
 use Rattle.book.specs.declared.acceptance.Verdict.the-variants.{Fine}
 use Rattle.book.specs.declared.expressions.Parse.{Parse}
 use Rattle.book.specs.declared.stored.SoFar.{SoFar as StoredSoFar}

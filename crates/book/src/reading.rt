@@ -13,7 +13,7 @@ ghost use Rattle.book.specs.Acceptance.{emptyBook};
 ghost use Rattle.book.specs.Books.{checked, read as readBook};
 ghost use Rattle.book.specs.Stored.{storedBook};
 ghost use Rattle.book.specs.Meaning.{checkedMeaning, bookOrEmpty};
-ghost use Rattle.book.specs.declared.Checked.the-variants.{Refused};
+ghost use Rattle.book.specs.declared.Checked.the-variants.{Accepted, Refused};
 
 // What a check of the book tells, and the book: the empty one where it is refused.
 pub struct BookRead {
@@ -30,6 +30,20 @@ fn refused(reason: Reason, line: usize) -> BookRead
             reason: reason,
             line: line,
         }),
+        book: b,
+    }
+}
+
+fn accepted(b: Book) -> BookRead
+    ensures { λ r. ⌜ (r .answer ≡ Accepted (b .opened) (b .asked)) × (r .book ≡ b) ⌝ }
+{
+    let policies = b.opened;
+    let conditions = b.asked;
+    BookRead {
+        answer: Checked::Accepted {
+            policies: policies,
+            conditions: conditions,
+        },
         book: b,
     }
 }
@@ -65,14 +79,7 @@ pub fn read(bytes: &[u8]) -> BookRead
         at = end + 1;
         line += 1;
     }
-    let whole = s.book;
-    BookRead {
-        answer: Checked::Accepted {
-            policies: whole.opened,
-            conditions: whole.asked,
-        },
-        book: whole,
-    }
+    accepted(s.book)
 }
 
 pub fn check(bytes: &[u8]) -> Checked

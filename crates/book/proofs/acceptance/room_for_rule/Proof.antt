@@ -1,7 +1,4 @@
 -- `book::acceptance::room_for_rule`: each operator by its arm.
-use mathlib.Core.Path.{ap, sym}
-use Prim.Native.Nat.{ℕ}
-use lib.Dec.{ltb}
 use Rattle.book.specs.Acceptance.{roomForRule}
 use borrow.Author.Needs.{needs}
 use Rattle.book.proofs.acceptance.room_for_rule.Statement.{statement}

@@ -1,10 +1,10 @@
 -- `book::reading::read`: before each line the book so far is the definition's, which goes on from there as the whole book does.
 use Prim.Native.Nat.{_+_, _-_, _≤_}
-use mathlib.Core.Path.{_≡_, refl, sym, _∙_}
+use mathlib.Core.Path.{sym, _∙_}
 use native.Mathlib.Omega.{arith}
 use borrow.Author.Needs.{needs}
 use denote.Ref.{now}
-use lib.ListN.{length, take, drop}
+use lib.ListN.{length}
 use Rattle.book.specs.Acceptance.{noLine}
 use Rattle.book.specs.declared.Reason.the-variants.{TooLong, NoForm}
 use Rattle.book.proofs.TextLaws.{end-within, piece-length}
@@ -147,10 +147,14 @@ loop-again c =
       record { so = x .0; held = x .1; bounded = x .2; same = sym (x .3) ∙ g .same },
     )
 
+accepted-requires : tie.Need-accepted-requires Inv-loop μ-loop
+accepted-requires c κs = search needs
+
 returns-5 : tie.Need-returns-5 Inv-loop μ-loop
 returns-5 c =
-    let g = c .before .before .loop .inv .2 in
-    tells-book _ (g .so) _ (g .held) (sym (g .same) ∙ read-end _ _ _ _ (c .before .loop-test .left))
+    let l = c .before in
+    let g = l .before .loop .inv .2 in
+    tells-book _ (g .so) _ _ (g .held) (sym (g .same) ∙ read-end _ _ _ _ (l .loop-test .left)) (c .accepted .ensures)
 
 pub read-spec : {M : Type 1} → statement M
 read-spec =
@@ -180,4 +184,5 @@ read-spec =
     add-line
     loop-less
     loop-again
+    accepted-requires
     returns-5)

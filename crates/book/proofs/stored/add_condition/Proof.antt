@@ -1,5 +1,4 @@
 -- `book::stored::add_condition`: the first free cell is filled.
-use mathlib.Core.Path.{_≡_, ap, _∙_}
 use Rattle.book.proofs.StoredLaws.{stored-condition}
 use borrow.Author.Needs.{needs}
 use Rattle.book.proofs.stored.add_condition.Statement.{statement}

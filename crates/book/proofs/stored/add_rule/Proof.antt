@@ -1,12 +1,9 @@
 -- `book::stored::add_rule`: the last policy, with a rule more, is put back.
 use Prim.Native.Nat.{_-_}
-use mathlib.Core.Path.{_≡_, ap, _∙_}
+use mathlib.Core.Path.{_≡_}
 use native.Mathlib.Omega.{arith}
-use lib.ListN.{set}
 use mir.Syntax.{w32}
 use mir.Val.{toZ, ofZ}
-use Rattle.book.specs.declared.stored.Policy.{Policy as StoredPolicy}
-use Rattle.book.specs.declared.stored.Book.{Book as StoredBook}
 use Rattle.book.proofs.StoredLaws.{stored-last, stored-change, room-opened, room-count}
 use borrow.Author.Needs.{needs}
 use Rattle.book.proofs.stored.add_rule.Statement.{statement}

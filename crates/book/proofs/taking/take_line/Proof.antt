@@ -1,11 +1,9 @@
 -- `book::taking::take_line`: each form by the function that takes it; a line of no form is refused.
-use Prim.Native.Nat.{ℕ}
 use mathlib.Core.Option.{some, none}
 use mathlib.Core.Path.{_≡_, refl, sym, ap, subst, _∙_}
 use lib.IntN.{pos, negℤ}
 use mir.Syntax.{w32}
 use mir.Val.{toZ, ofZ}
-use Rattle.book.specs.Forms.{policy, rule, condition}
 use Rattle.book.specs.Acceptance.{within, defaultOf, defaultInRange}
 use Rattle.book.specs.LineMeaning.{lineMeaning, StartIn}
 use Rattle.book.specs.declared.lines.Line.{Line}

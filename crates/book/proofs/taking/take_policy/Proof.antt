@@ -1,5 +1,5 @@
 -- `book::taking::take_policy`: by the verdict.
-use mathlib.Core.Path.{_≡_, refl, sym, _∙_}
+use mathlib.Core.Path.{refl, _∙_}
 use mir.Syntax.{w32}
 use mir.ValLaws.{toZ-ofZ}
 use Rattle.book.specs.Forms.{policy}
