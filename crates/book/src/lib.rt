@@ -1,4 +1,6 @@
 // Books of evidence policies, as text.
+// `check` and `read` are the calls, and take every byte string. The modules are this crate's own: no other crate can name
+// their functions, some of which have a condition that is proved wherever one of them is called.
 mod acceptance;
 mod expressions;
 mod lines;
