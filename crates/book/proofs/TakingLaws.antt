@@ -96,20 +96,12 @@ module _ (so : BookSoFar) (b : Bounded so) where
         distinct = λ _. rw (last-added (so .book) q) tt;
       }
 
-  pub policy-room : (o : Operator) (d : Option ℤ) → Passed so (policy o d) → length (so .book .policies) < 16
-  unfolding inCount
-  policy-room o d p = ltb-true (length (so .book .policies)) 16 (p .count)
-
   pub bounded-condition : (c : Sense) (t : ℤ) (e : Expression) → Passed so (condition c t e) → Bounded (after so (condition c t e))
   unfolding after bookWith opensRules inCount withCondition
   bounded-condition c t e p =
       let room = ltb-true (length (so .book .conditions)) 8 (p .count) in
       let more = length-append (so .book .conditions) (record { sense = c; threshold = t; expression = e } ∷ []) in
       record { policies = b .policies; conditions = omega arith; some = λ z. no-rules z; below = λ z. no-rules z; distinct = λ z. no-rules z }
-
-  pub condition-room : (c : Sense) (t : ℤ) (e : Expression) → Passed so (condition c t e) → length (so .book .conditions) < 8
-  unfolding inCount
-  condition-room c t e p = ltb-true (length (so .book .conditions)) 8 (p .count)
 
   module _ (s : ℕ) (v : ℤ) (p : Passed so (rule s v)) where
     pub rule-inside : so .inRules ≡ true

@@ -95,15 +95,6 @@ line-alone : (s : List ℕ) (i : ℕ) → i < length s → asLines (drop i s ∷
 unfolding asLines
 line-alone s i h = rw (drop-cons s i 0 h)
 
-pub line-first : (s : List ℕ) → upTo 10 s < length s
-    → textLines s ≡ record { text = take (upTo 10 s) s; ended = true } ∷ textLines (drop (suc (upTo 10 s)) s)
-unfolding textLines
-line-first s h = ap asLines (parted-more 10 s h) ∙ line-before (take (upTo 10 s) s) (drop (suc (upTo 10 s)) s)
-
-pub line-last : (s : List ℕ) → 0 < length s → length s ≤ upTo 10 s → textLines s ≡ record { text = s; ended = false } ∷ []
-unfolding textLines
-line-last s h l = ap asLines (parted-last 10 s l) ∙ line-alone s 0 h
-
 -- the line at a place: the next end is found at e, or the book's end is
 module _ (s : List ℕ) (at e : ℕ) (h : at < length s) (q : e ≡ at + upTo 10 (drop at s)) where
   pub ended-line : e < length s
