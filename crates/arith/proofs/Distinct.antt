@@ -1,5 +1,5 @@
 -- Different numbers below n are at most n.
-use Prim.Native.Nat.{ℕ, zero, suc, _≤_, _<_}
+use Prim.Native.Nat.{ℕ, zero, suc, _≤_}
 use mathlib.Core.Bool.{Bool, true, false, cond, _||_}
 use mathlib.Core.List.{List, [], _∷_, _++_}
 use mathlib.Core.Path.{_≡_, refl, sym, ap, _∙_}
@@ -78,7 +78,3 @@ distinct-more [] x a h = (refl, tt)
 distinct-more (y ∷ l) x a h =
     let q = neither (eqb y x) (isIn x l) h in
     (absent-more x y l (ne-eqb x y (λ e. eqb-false y x (q .0) (sym e))) (a .0), distinct-more l x (a .1) (q .1))
-
-pub below-more : (n : ℕ) (l : List ℕ) (x : ℕ) → AllBelow n l → x < n → AllBelow n (l ++ (x ∷ []))
-below-more n [] x b h = (h, tt)
-below-more n (y ∷ l) x b h = (b .0, below-more n l x (b .1) h)

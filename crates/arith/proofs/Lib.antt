@@ -1,5 +1,7 @@
 pub mod Tests
 pub mod Padding
+pub mod Each
+pub mod Keep
 pub mod Distinct
 pub mod Bits
 pub mod Trees

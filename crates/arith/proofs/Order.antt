@@ -1,14 +1,14 @@
 -- The order of whole numbers with a sign, for `omega`, which reads naturals: z is `above z` less `under z`, one of which is 0.
-use Prim.Native.Nat.{ℕ, zero, suc, _+_, _*_, _≤_, _<_}
-use mathlib.Core.Bool.{Bool, true, false, not}
+use Prim.Native.Nat.{ℕ, zero, suc, _+_, _-_, _*_, _≤_, _<_}
+use mathlib.Core.Bool.{Bool, true, false, not, cond}
 use mathlib.Core.Logic.{_⊎_, inl, inr}
 use mathlib.Core.Path.{_≡_, refl, sym, ap, _∙_}
 use native.Mathlib.Nat.{zero-mul, mul-assoc, mul-le-mul-right, le-of-mul-le-mul-right}
 use native.Mathlib.Omega.{arith}
 use lib.Dec.{leb, ltb}
-use lib.IntN.{ℤ, pos, negsuc, negℤ, _*ℤ_}
+use lib.IntN.{ℤ, pos, negsuc, negℤ, _+ℤ_, _*ℤ_}
 use lib.Signed.{leZ, ltZ}
-use borrow.Author.Tests.{leb-true, leb-false, le-leb, lt-ltb, le-ltb}
+use borrow.Author.Tests.{leb-true, leb-false, ltb-true, ltb-false, le-leb, lt-ltb, le-ltb}
 use Rattle.arith.proofs.Tests.{clash, same-answer}
 
 pub le-or-lt : (a b : ℕ) → (a ≤ b) ⊎ (b < a)
@@ -116,3 +116,14 @@ scale-neg (suc k) n = refl
 pub scale-scale : (a : ℤ) (m n : ℕ) → a *ℤ pos m *ℤ pos n ≡ a *ℤ pos (m * n)
 scale-scale (pos a) m n = rw mul-assoc
 scale-scale (negsuc a) m n = scale-neg (suc a * m) n ∙ rw mul-assoc
+
+-- ---- a natural number added
+
+pub sum-parts : (x : ℤ) (r : ℕ) → above (x +ℤ pos r) + under x ≡ above x + r + under (x +ℤ pos r)
+sum-parts (pos x) r = omega arith
+sum-parts (negsuc x) r = go (ltb r (suc x)) refl
+  where
+    go : (t : Bool) → ltb r (suc x) ≡ t
+        → above (cond t (negsuc (suc x - suc r)) (pos (r - suc x))) + suc x ≡ 0 + r + under (cond t (negsuc (suc x - suc r)) (pos (r - suc x)))
+    go true e = omega (arith, ltb-true r (suc x) e)
+    go false e = omega (arith, ltb-false r (suc x) e)

@@ -27,6 +27,11 @@ module _ {A : Type 0} where
   subsets [] = [] ∷ []
   subsets (x ∷ xs) = map (λ Y. x ∷ Y) (subsets xs) ++ subsets xs
 
+-- each member has the property
+abbrev pub Each : {A : Type 0} → (A → Type 0) → List A → Type 0
+Each P [] = Unit {0}
+Each P (x ∷ xs) = P x × Each P xs
+
 -- the numbers below n, falling: n - 1, .. 1, 0
 abbrev pub below : ℕ → List ℕ
 below zero = []
@@ -42,8 +47,7 @@ isIn x l = any (λ y. eqb y x) l
 
 -- each is below n
 abbrev pub AllBelow : ℕ → List ℕ → Type 0
-AllBelow n [] = Unit {0}
-AllBelow n (x ∷ l) = (x < n) × AllBelow n l
+AllBelow n l = Each (λ (x : ℕ). x < n) l
 
 -- no two are equal
 abbrev pub Distinct : List ℕ → Type 0

@@ -1,5 +1,7 @@
 -- Binary trees, and their nodes in the order left, right, join.
+use Prim.Native.Nat.{ℕ, _+_, _-_, _≤_}
 use mathlib.Core.List.{List, [], _∷_, _++_}
+use mathlib.Core.Path.{_≡_}
 
 -- a tree with leaves of the type L and joins of the type J
 pub data Tree (J L : Type 0) : Type 0 where
@@ -16,6 +18,12 @@ module _ {J L : Type 0} where
   unfoldable pub postfix : Tree J L → List (Node J L)
   postfix (leaf l) = value l ∷ []
   postfix (join j a b) = postfix a ++ (postfix b ++ (joining j ∷ []))
+
+  -- taken one after the other from n values on, each join finds two values, and one value is left
+  abbrev pub LeavesOne : List (Node J L) → ℕ → Type 0
+  LeavesOne [] n = n ≡ 1
+  LeavesOne (value l ∷ ns) n = LeavesOne ns (n + 1)
+  LeavesOne (joining j ∷ ns) n = (2 ≤ n) × LeavesOne ns (n - 1)
 
 module _ {J L M K : Type 0} (onJoin : J → K) (onLeaf : L → M) where
   -- a tree of the same shape

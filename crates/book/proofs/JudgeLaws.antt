@@ -1,7 +1,7 @@
 -- Laws of accepting a line: the tests 3 to 6 in their order, and what the code's loops and tests say of them.
 use Prim.Native.Nat.{ℕ, _+_, _≤_, _<_}
 use mathlib.Core.Bool.{Bool, true, false, not, _&&_, and-assoc, and-true}
-use mathlib.Core.List.{List, [], _∷_, _++_, map}
+use mathlib.Core.List.{List, [], _∷_, _++_}
 use mathlib.Core.Option.{Option}
 use mathlib.Core.Path.{_≡_, refl, sym, ap, _∙_}
 use native.Mathlib.Numerals.{add-one}
@@ -12,13 +12,14 @@ use lib.ListN.{length, getD, take, drop, drop-of-length-le, length-map}
 use lib.Seq.{length-take-le, drop-cons, getD-take}
 use borrow.Author.Tests.{eq-eqb, ne-eqb, lt-ltb, le-ltb, ltb-true, ltb-false, le-leb, lt-leb}
 use Rattle.answers.specs.Answers.{result, refused}
-use Rattle.arith.specs.Lists.{every, any, padded}
+use Rattle.arith.specs.Lists.{every, any, padded, isIn}
 use Rattle.arith.specs.Trees.{leaf, join, joining, treeValue}
 use Rattle.peal.specs.Policies.{Rule, Policy, MinMax, smaller, larger, Expression}
 use Rattle.peal.specs.declared.Operator.{Operator}
 use Rattle.peal.specs.declared.Sense.{Sense}
 use Rattle.book.specs.Forms.{Form, policy, rule, condition}
 use Rattle.book.specs.Acceptance.{BookSoFar, lastPolicy, inPlace, inCount, roomForRule, within, defaultInRange, scoreInRange, mentionsBelow, inRange, isNew, accept}
+use Rattle.book.specs.Ranges.{signalsOf}
 use Rattle.book.specs.Codes.{codeOf, codesOf}
 use Rattle.book.specs.Stored.{storedPolicy}
 use Rattle.book.specs.Judged.{after}
@@ -174,14 +175,14 @@ module _ (l : List ℕ) (n i : ℕ) (room : n ≤ length l) where
 
 -- ---- what the cells hold
 
-any-map : (s : ℕ) (rules : List Rule) → any (λ y. eqb y s) (map (λ (r : Rule). r .signal) rules) ≡ any (λ (r : Rule). eqb (r .signal) s) rules
+pub any-map : (s : ℕ) (rules : List Rule) → isIn s (signalsOf rules) ≡ any (λ (r : Rule). eqb (r .signal) s) rules
 any-map s [] = refl
 any-map s (r ∷ rules) = rw (any-map s rules)
 
 pub signal-cells : (p : StoredPolicy) (s : ℕ) (q : Policy) → p ≡ storedPolicy q → any (λ y. eqb y s) (take (p .count) (p .signals)) ≡ any (λ (r : Rule). eqb (r .signal) s) (q .rules)
 unfolding storedPolicy
 signal-cells p s q e =
-    let signals : List ℕ = map (λ (r : Rule). r .signal) (q .rules) in
+    let signals : List ℕ = signalsOf (q .rules) in
     ap (λ (x : StoredPolicy). any (λ y. eqb y s) (take (x .count) (x .signals))) e
     ∙ ap (λ (k : ℕ). any (λ y. eqb y s) (take k (padded 16 0 signals))) (sym (length-map (q .rules) (λ (r : Rule). r .signal)))
     ∙ ap (any (λ y. eqb y s)) (take-padded 16 0 signals)
@@ -203,7 +204,7 @@ shift m n = go (ltb m n) refl
     go true e = lt-ltb (m + 2) (n + 2) (omega (arith, ltb-true m n e))
     go false e = le-ltb (m + 2) (n + 2) (omega (arith, ltb-false m n e))
 
-codes-below : (n : ℕ) (e : Expression) → every (λ y. ltb y (n + 2)) (codesOf e) ≡ mentionsBelow n e
+pub codes-below : (n : ℕ) (e : Expression) → every (λ y. ltb y (n + 2)) (codesOf e) ≡ mentionsBelow n e
 unfolding mentionsBelow treeValue
 codes-below n (leaf m) = rw (codes-leaf m, shift m n) (and-true (ltb m n))
 codes-below n (join j a b) =

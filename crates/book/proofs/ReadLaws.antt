@@ -9,6 +9,7 @@ use native.Mathlib.Omega.{arith}
 use lib.ListN.{length, take, drop, length-drop}
 use borrow.Author.Tests.{le-leb, lt-leb}
 use Rattle.answers.specs.Answers.{Answer, result, refused, onResult}
+use Rattle.answers.proofs.Results.{no-refusal}
 use Rattle.book.specs.Text.{textLines}
 use Rattle.book.specs.Spelling.{upTo}
 use Rattle.book.specs.Forms.{form}
@@ -37,13 +38,10 @@ pub line-refused : (n : ℕ) (a : Answer BookSoFar) (t : Taken) (r : Reason) →
 line-refused n (result so) t r e h = not-fine (h .0) e
 line-refused n (refused k v) t r e h = sym h ∙ ap (λ (w : Verdict). verdictMeaning n w noLine) e
 
-refusal-not-fine : {X : Type 0} {a : BookSoFar} {k v : ℕ} → result a ≡ refused k v → X
-refusal-not-fine h = let z : _≡_ {A = ℕ} 0 1 = cc in absurd (omega arith)
-
 pub line-fine : (n : ℕ) (a : Answer BookSoFar) (t : Taken) → t .verdict ≡ Fine → TakenAs n a t
     → (so : BookSoFar) × (t .so ≡ storedSoFar so) × Bounded so × (a ≡ result so)
 line-fine n (result so) t e h = (so, h .1, h .2, refl)
-line-fine n (refused k v) t e h = refusal-not-fine (sym (ap (λ (w : Verdict). verdictMeaning n w noLine) e) ∙ h)
+line-fine n (refused k v) t e h = no-refusal (sym (ap (λ (w : Verdict). verdictMeaning n w noLine) e) ∙ h)
 
 -- ---- the lines one by one
 

@@ -1,16 +1,20 @@
 -- What a change of the definitions' book does to the stored one.
-use Prim.Native.Nat.{ℕ, _+_, _-_, _<_}
+use Prim.Native.Nat.{ℕ, _+_, _-_, _≤_, _<_}
 use mathlib.Core.List.{List, [], _∷_, _++_, map, map-append}
-use mathlib.Core.Path.{_≡_, refl, sym, ap, _∙_}
+use mathlib.Core.Path.{_≡_, refl, sym, ap, subst, _∙_}
 use native.Mathlib.Omega.{arith}
 use lib.IntN.{ℤ, pos}
 use lib.ListN.{length, getD, set, length-append, length-map, length-set, List·getD-map}
-use Rattle.arith.specs.Lists.{padded}
+use Rattle.answers.specs.Answers.{result, refused}
+use Rattle.answers.proofs.Results.{no-refusal, result-is}
+use Rattle.arith.specs.Lists.{padded, Each}
 use Rattle.arith.proofs.Padding.{padded-more, padded-set, padded-get}
 use Rattle.peal.specs.Policies.{Rule, Policy, Condition, Book, policyAt, emptyPolicy}
 use Rattle.book.specs.Acceptance.{lastPolicy, withRule, withPolicies, withLast, withCondition}
+use Rattle.book.specs.Books.{conditionAt}
 use Rattle.book.specs.Stored.{storedPolicy, storedCondition, noPolicy, noCondition, storedBook, LastHasRoom}
 use Rattle.book.specs.declared.stored.Policy.{Policy as StoredPolicy}
+use Rattle.book.specs.declared.stored.Condition.{Condition as StoredCondition}
 use Rattle.book.specs.declared.stored.Book.{Book as StoredBook}
 
 -- a mapped list in cells: one member more
@@ -82,22 +86,76 @@ stored-condition b k d e h =
       conditions = mapped-more storedCondition 8 noCondition (k .conditions) d small i;
     })
 
+-- ---- the condition of a number
+
+condition-first : (c : Condition) (cs : List Condition) → conditionAt (c ∷ cs) 0 ≡ result c
+unfolding conditionAt
+condition-first c cs = refl
+
+condition-next : (c : Condition) (cs : List Condition) (n : ℕ) → conditionAt (c ∷ cs) (ℕ.suc n) ≡ conditionAt cs n
+unfolding conditionAt
+condition-next c cs n = refl
+
+pub no-condition : (cs : List Condition) (n : ℕ) → length cs ≤ n → conditionAt cs n ≡ refused 7 0
+unfolding conditionAt
+no-condition [] n h = refl
+no-condition (c ∷ cs) ℕ.zero h = absurd (omega arith)
+no-condition (c ∷ cs) (ℕ.suc n) h = no-condition cs n (omega arith)
+
+pub each-condition : (P : Condition → Type 0) (cs : List Condition) (n : ℕ) (c : Condition) → Each P cs → conditionAt cs n ≡ result c → P c
+unfolding conditionAt
+each-condition P [] n c h k = no-refusal (sym k)
+each-condition P (x ∷ cs) ℕ.zero c h k = subst P (result-is k) (h .0)
+each-condition P (x ∷ cs) (ℕ.suc n) c h k = each-condition P cs n c (h .1) k
+
+-- ---- what stands in a stored book
+
+any-default : {A : Type 0} (l : List A) (i : ℕ) (x y : A) → i < length l → getD l i x ≡ getD l i y
+any-default [] i x y h = absurd (omega arith)
+any-default (z ∷ l) ℕ.zero x y h = refl
+any-default (z ∷ l) (ℕ.suc i) x y h = any-default l i x y (omega arith)
+
+module _ (b : StoredBook) (k : Book) (e : b ≡ storedBook k) where
+  pub opened-is : b .opened ≡ length (k .policies)
+  unfolding storedBook
+  opened-is = ap (λ (x : StoredBook). x .opened) e
+
+  pub asked-is : b .asked ≡ length (k .conditions)
+  unfolding storedBook
+  asked-is = ap (λ (x : StoredBook). x .asked) e
+
+  pub policy-at : (i : ℕ) (d : StoredPolicy) → i < b .opened → getD (b .policies) i d ≡ storedPolicy (policyAt (k .policies) i)
+  unfolding storedBook policyAt
+  policy-at i d h =
+      let within : i < length (map storedPolicy (k .policies)) = omega (arith, opened-is, length-map (k .policies) storedPolicy) in
+      ap (λ (x : StoredBook). getD (x .policies) i d) e
+      ∙ padded-get 16 noPolicy (map storedPolicy (k .policies)) i d within
+      ∙ any-default (map storedPolicy (k .policies)) i d (storedPolicy emptyPolicy) within
+      ∙ List·getD-map storedPolicy (k .policies) i emptyPolicy
+
+  -- the condition of a number
+  pub condition-at : (i : ℕ) (d : StoredCondition) → i < b .asked
+      → (c : Condition) × (conditionAt (k .conditions) i ≡ result c) × (getD (b .conditions) i d ≡ storedCondition c)
+  unfolding storedBook
+  condition-at i d h =
+      let found = go (k .conditions) i (omega (arith, asked-is)) in (
+        found .0,
+        found .1,
+        ap (λ (x : StoredBook). getD (x .conditions) i d) e
+            ∙ padded-get 8 noCondition (map storedCondition (k .conditions)) i d (omega (arith, asked-is, length-map (k .conditions) storedCondition))
+            ∙ found .2,
+      )
+    where
+      go : (cs : List Condition) (n : ℕ) → n < length cs → (c : Condition) × (conditionAt cs n ≡ result c) × (getD (map storedCondition cs) n d ≡ storedCondition c)
+      go [] n l = absurd (omega arith)
+      go (c ∷ cs) ℕ.zero l = (c, condition-first c cs, refl)
+      go (c ∷ cs) (ℕ.suc n) l = let f = go cs n (omega arith) in (f .0, condition-next c cs n ∙ f .1, f .2)
+
 -- the last policy
 pub stored-last : (b : StoredBook) (k : Book) (d : StoredPolicy) → b ≡ storedBook k → 0 < b .opened → getD (b .policies) (b .opened - 1) d ≡ storedPolicy (lastPolicy k)
-unfolding storedBook lastPolicy policyAt
+unfolding lastPolicy
 stored-last b k d e h =
-    let some : 0 < length (k .policies) = omega (arith, ap (λ (x : StoredBook). x .opened) e) in
-    let n : ℕ = length (k .policies) - 1 in
-    let within : n < length (map storedPolicy (k .policies)) = omega (arith, length-map (k .policies) storedPolicy) in
-    ap (λ (x : StoredBook). getD (x .policies) (x .opened - 1) d) e
-    ∙ padded-get 16 noPolicy (map storedPolicy (k .policies)) n d within
-    ∙ any-default (map storedPolicy (k .policies)) n d (storedPolicy emptyPolicy) within
-    ∙ List·getD-map storedPolicy (k .policies) n emptyPolicy
-  where
-    any-default : (l : List StoredPolicy) (i : ℕ) (x y : StoredPolicy) → i < length l → getD l i x ≡ getD l i y
-    any-default [] i x y h = absurd (omega arith)
-    any-default (z ∷ l) ℕ.zero x y h = refl
-    any-default (z ∷ l) (ℕ.suc i) x y h = any-default l i x y (omega arith)
+    policy-at b k e (b .opened - 1) d (omega arith) ∙ ap (λ (n : ℕ). storedPolicy (policyAt (k .policies) (n - 1))) (opened-is b k e)
 
 -- the last policy changed
 pub stored-change : (b : StoredBook) (k : Book) (p : Policy) → b ≡ storedBook k → 0 < b .opened
@@ -120,8 +178,7 @@ stored-change b k p e h =
 -- what the code asks of a book whose last policy has room
 module _ (b : StoredBook) (h : LastHasRoom b) where
   pub room-opened : b .opened ≡ length (h .book .policies)
-  unfolding storedBook
-  room-opened = ap (λ (x : StoredBook). x .opened) (h .held)
+  room-opened = opened-is b (h .book) (h .held)
 
   pub room-count : (d : StoredPolicy) → getD (b .policies) (b .opened - 1) d .count < 16
   unfolding storedPolicy

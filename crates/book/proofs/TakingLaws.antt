@@ -1,30 +1,25 @@
--- A line that is accepted keeps the book so far within bounds; and the verdict of the code, as the definition's answer.
-use Prim.Native.Nat.{ℕ, _+_, _-_, _≤_, _<_}
-use mathlib.Core.Bool.{Bool, true, false}
-use mathlib.Core.List.{List, [], _∷_, _++_, map-append}
+-- The verdict of the code on a line, as the definition's answer; and the stored book so far.
+use Prim.Native.Nat.{ℕ, _-_, _≤_}
+use mathlib.Core.Bool.{true, false}
+use mathlib.Core.List.{List, [], _∷_, _++_}
 use mathlib.Core.Option.{Option, none, some}
-use mathlib.Core.Path.{_≡_, refl, sym, ap, subst, _∙_}
+use mathlib.Core.Path.{_≡_, sym, ap, subst, _∙_}
 use native.Mathlib.Omega.{arith}
-use lib.Dec.{leb, eqb}
 use lib.IntN.{ℤ}
-use lib.ListN.{length, getD, length-append, length-set, length-map}
-use lib.Seq.{getD-set-same, getD-at}
-use borrow.Author.Tests.{leb-true, ltb-true, not-true}
-use Rattle.answers.specs.Answers.{Answer, result, refused, require}
+use lib.ListN.{length, getD}
+use Rattle.answers.specs.Answers.{Answer}
 use Rattle.arith.specs.Options.{_>>=_}
-use Rattle.arith.specs.Lists.{any, padded, isIn, AllBelow, Distinct}
-use Rattle.arith.proofs.Distinct.{at-most, distinct-more, below-more}
-use Rattle.arith.proofs.Tests.{and-left}
-use Rattle.peal.specs.Policies.{Rule, Policy, Expression, Book, policyAt}
+use Rattle.arith.specs.Lists.{padded}
+use Rattle.peal.specs.Policies.{Expression}
 use Rattle.peal.specs.declared.Operator.{Operator}
 use Rattle.peal.specs.declared.Sense.{Sense}
 use Rattle.book.specs.Forms.{Form, policy, rule, condition, form}
-use Rattle.book.specs.Acceptance.{BookSoFar, noLine, emptyBook, lastPolicy, inPlace, inCount, inRange, scoreInRange, isNew, defaultOf, withRule, withPolicies, withLast, withCondition, bookWith, opensRules, accept}
+use Rattle.book.specs.Acceptance.{BookSoFar, noLine, lastPolicy, inPlace, defaultOf, withRule, withPolicies, withLast, withCondition, bookWith, opensRules, accept}
 use Rattle.book.specs.Books.{acceptForm}
 use Rattle.book.specs.Codes.{codesOf}
 use Rattle.book.specs.Stored.{storedPolicy, storedCondition, storedBook, LastHasRoom, storedSoFar}
 use Rattle.book.specs.Judged.{verdictMeaning, after, Judged}
-use Rattle.book.specs.Taken.{signalsOf, Bounded, TakenAs}
+use Rattle.book.specs.Taken.{Bounded, TakenAs}
 use Rattle.book.specs.declared.Reason.{Reason}
 use Rattle.book.specs.declared.Reason.the-variants.{NoForm, OutOfPlace}
 use Rattle.book.specs.declared.acceptance.Verdict.{Verdict}
@@ -34,129 +29,15 @@ use Rattle.book.specs.declared.stored.Condition.{Condition as StoredCond
 use Rattle.book.specs.declared.stored.Book.{Book as StoredBook}
 use Rattle.book.specs.declared.stored.SoFar.{SoFar as StoredSoFar}
 use Rattle.book.specs.declared.taking.Taken.{Taken}
-use Rattle.book.proofs.StoredLaws.{stored-last}
+use Rattle.book.proofs.StoredLaws.{opened-is, asked-is, stored-last}
 use Rattle.book.proofs.JudgeLaws.{accept-3}
-
--- ---- what an accepted line has passed
-
-pub record Passed (so : BookSoFar) (f : Form) : Type 0 where
-  pub place : inPlace so f ≡ true
-  pub count : inCount so f ≡ true
-  pub range : inRange so f ≡ true
-  pub new : isNew so f ≡ true
-
-no-refusal : {X : Type 0} {a : BookSoFar} {k v : ℕ} → result a ≡ refused k v → X
-no-refusal h = let z : _≡_ {A = ℕ} 0 1 = cc in absurd (omega arith)
-
-pub passed : (so : BookSoFar) (f : Form) → Judged so f Fine → Passed so f
-unfolding accept after
-passed so f h = let q = go (inPlace so f) (inCount so f) (inRange so f) (isNew so f) (after so f) (h 0) in record { place = q .0; count = q .1; range = q .2; new = q .3 }
-  where
-    go : (a b c d : Bool) (x : BookSoFar) → result x ≡ require a 3 0 (require b 4 0 (require c 5 0 (require d 6 0 (result x))))
-        → (a ≡ true) × (b ≡ true) × (c ≡ true) × (d ≡ true)
-    go true true true true x h = (refl, refl, refl, refl)
-    go true true true false x h = no-refusal h
-    go true true false d x h = no-refusal h
-    go true false c d x h = no-refusal h
-    go false b c d x h = no-refusal h
-
--- ---- bounds
-
-no-rules : {X : Type 0} → false ≡ true → X
-no-rules h = let z : _≡_ {A = ℕ} 0 1 = cc in absurd (omega arith)
-
-pub bounded-start : Bounded noLine
-unfolding noLine emptyBook
-bounded-start = record { policies = omega arith; conditions = omega arith; some = λ z. no-rules z; below = λ z. no-rules z; distinct = λ z. no-rules z }
-
-last-added : (b : Book) (p : Policy) → lastPolicy (withPolicies b (b .policies ++ (p ∷ []))) ≡ p
-unfolding lastPolicy policyAt withPolicies
-last-added b p = getD-at (b .policies) p [] _ (length (b .policies ++ (p ∷ [])) - 1) (omega (arith, length-append (b .policies) (p ∷ [])))
-
-last-changed : (b : Book) (p : Policy) → 0 < length (b .policies) → lastPolicy (withLast b p) ≡ p
-unfolding lastPolicy policyAt withLast withPolicies
-last-changed b p h = rw (length-set (b .policies) (length (b .policies) - 1) p) (getD-set-same (b .policies) (length (b .policies) - 1) p _ (omega arith))
-
-any-signals : (s : ℕ) (rules : List Rule) → any (λ (r : Rule). eqb (r .signal) s) rules ≡ isIn s (signalsOf rules)
-any-signals s [] = refl
-any-signals s (r ∷ rules) = rw (any-signals s rules)
-
-module _ (so : BookSoFar) (b : Bounded so) where
-  pub bounded-policy : (o : Operator) (d : Option ℤ) → Passed so (policy o d) → Bounded (after so (policy o d))
-  unfolding after bookWith opensRules inCount withPolicies
-  bounded-policy o d p =
-      let q : Policy = record { operator = o; default = defaultOf o d; rules = [] } in
-      let room = ltb-true (length (so .book .policies)) 16 (p .count) in
-      let more = length-append (so .book .policies) (q ∷ []) in
-      record {
-        policies = omega arith;
-        conditions = b .conditions;
-        some = λ _. omega arith;
-        below = λ _. rw (last-added (so .book) q) tt;
-        distinct = λ _. rw (last-added (so .book) q) tt;
-      }
-
-  pub bounded-condition : (c : Sense) (t : ℤ) (e : Expression) → Passed so (condition c t e) → Bounded (after so (condition c t e))
-  unfolding after bookWith opensRules inCount withCondition
-  bounded-condition c t e p =
-      let room = ltb-true (length (so .book .conditions)) 8 (p .count) in
-      let more = length-append (so .book .conditions) (record { sense = c; threshold = t; expression = e } ∷ []) in
-      record { policies = b .policies; conditions = omega arith; some = λ z. no-rules z; below = λ z. no-rules z; distinct = λ z. no-rules z }
-
-  module _ (s : ℕ) (v : ℤ) (p : Passed so (rule s v)) where
-    pub rule-inside : so .inRules ≡ true
-    unfolding inPlace
-    rule-inside = p .place
-
-    rules : List Rule
-    rules = lastPolicy (so .book) .rules
-
-    small : s < 16
-    unfolding inRange
-    small = omega (arith, leb-true s 15 (and-left (leb s 15) (scoreInRange (lastPolicy (so .book) .operator) v) (p .range)))
-
-    absent : isIn s (signalsOf rules) ≡ false
-    unfolding isNew rules
-    absent = sym (any-signals s (lastPolicy (so .book) .rules)) ∙ not-true _ (p .new)
-
-    new-below : AllBelow 16 (signalsOf rules ++ (s ∷ []))
-    unfolding rules
-    new-below = below-more 16 (signalsOf (lastPolicy (so .book) .rules)) s (b .below rule-inside) small
-
-    new-distinct : Distinct (signalsOf rules ++ (s ∷ []))
-    unfolding rules
-    new-distinct = distinct-more (signalsOf (lastPolicy (so .book) .rules)) s (b .distinct rule-inside) absent
-
-    -- sixteen different signals are all there are
-    pub rule-room : length (lastPolicy (so .book) .rules) < 16
-    unfolding rules
-    rule-room =
-        let l = lastPolicy (so .book) .rules in
-        omega (arith, at-most 16 (signalsOf l ++ (s ∷ [])) new-below new-distinct, length-append (signalsOf l) (s ∷ []), length-map l (λ (r : Rule). r .signal))
-
-    new-signals : signalsOf (lastPolicy (withLast (so .book) (withRule (lastPolicy (so .book)) (record { signal = s; score = v }))) .rules) ≡ signalsOf rules ++ (s ∷ [])
-    unfolding withRule rules
-    new-signals =
-        ap (λ (q : Policy). signalsOf (q .rules)) (last-changed (so .book) (withRule (lastPolicy (so .book)) (record { signal = s; score = v })) (b .some rule-inside))
-        ∙ map-append (λ (r : Rule). r .signal) (lastPolicy (so .book) .rules) (record { signal = s; score = v } ∷ [])
-
-    pub bounded-rule : Bounded (after so (rule s v))
-    unfolding after bookWith opensRules withLast withPolicies
-    bounded-rule =
-        let same = length-set (so .book .policies) (length (so .book .policies) - 1) (withRule (lastPolicy (so .book)) (record { signal = s; score = v })) in
-        record {
-          policies = omega (arith, b .policies);
-          conditions = b .conditions;
-          some = λ _. omega (arith, b .some rule-inside);
-          below = λ _. subst (AllBelow 16) (sym new-signals) new-below;
-          distinct = λ _. subst Distinct (sym new-signals) new-distinct;
-        }
+use Rattle.book.proofs.RangeLaws.{passed, rules-at-most, last-in-range, rule-some, rule-room, accept-bounded}
 
 -- ---- taken lines
 
-pub taken-fine : (n : ℕ) (so : BookSoFar) (f : Form) (t : Taken) → Judged so f Fine → t .verdict ≡ Fine → t .so ≡ storedSoFar (after so f) → Bounded (after so f)
+pub taken-fine : (n : ℕ) (so : BookSoFar) (f : Form) (t : Taken) → Bounded so → Judged so f Fine → t .verdict ≡ Fine → t .so ≡ storedSoFar (after so f)
     → TakenAs n (accept n so f) t
-taken-fine n so f t j v e b = subst (λ (a : Answer BookSoFar). TakenAs n a t) (j n) (v, e, b)
+taken-fine n so f t b j v e = subst (λ (a : Answer BookSoFar). TakenAs n a t) (j n) (v, e, accept-bounded n so (after so f) f b (sym (j n)))
 
 pub taken-refused : (n : ℕ) (so : BookSoFar) (f : Form) (r : Reason) (t : Taken) → Judged so f (Refused r) → t .verdict ≡ Refused r → TakenAs n (accept n so f) t
 taken-refused n so f r t j v = subst (λ (a : Answer BookSoFar). TakenAs n a t) (j n) (ap (λ (w : Verdict). verdictMeaning n w noLine) v)
@@ -177,12 +58,10 @@ module _ (s : StoredSoFar) (so : BookSoFar) (e : s ≡ storedSoFar so) where
   kept-inside = ap (λ (x : StoredSoFar). x .inside) e
 
   pub kept-opened : s .book .opened ≡ length (so .book .policies)
-  unfolding storedBook
-  kept-opened = ap (λ (x : StoredBook). x .opened) kept-book
+  kept-opened = opened-is (s .book) (so .book) kept-book
 
   pub kept-asked : s .book .asked ≡ length (so .book .conditions)
-  unfolding storedBook
-  kept-asked = ap (λ (x : StoredBook). x .asked) kept-book
+  kept-asked = asked-is (s .book) (so .book) kept-book
 
   pub kept-last : Bounded so → s .inside ≡ true → (d : StoredPolicy) → getD (s .book .policies) (s .book .opened - 1) d ≡ storedPolicy (lastPolicy (so .book))
   kept-last b i d = stored-last (s .book) (so .book) d kept-book (omega (arith, kept-opened, b .some (sym kept-inside ∙ i)))
@@ -190,13 +69,12 @@ module _ (s : StoredSoFar) (so : BookSoFar) (e : s ≡ storedSoFar so) where
   pub kept-count : Bounded so → s .inside ≡ true → (d : StoredPolicy) → getD (s .book .policies) (s .book .opened - 1) d .count ≤ 16
   unfolding storedPolicy
   kept-count b i d =
-      let l = lastPolicy (so .book) .rules in
-      let h = sym kept-inside ∙ i in
-      omega (arith, ap (λ (x : StoredPolicy). x .count) (kept-last b i d), at-most 16 (signalsOf l) (b .below h) (b .distinct h), length-map l (λ (r : Rule). r .signal))
+      omega (arith, ap (λ (x : StoredPolicy). x .count) (kept-last b i d), rules-at-most (lastPolicy (so .book)) (last-in-range (so .book) (b .range) (b .some (sym kept-inside ∙ i))))
 
-  pub kept-room : Bounded so → (signal : ℕ) (v : ℤ) → Passed so (rule signal v) → LastHasRoom (s .book)
-  kept-room b signal v p =
-      record { book = so .book; held = kept-book; some = b .some (rule-inside so b signal v p); atMost = b .policies; room = rule-room so b signal v p }
+  pub kept-room : Bounded so → (signal : ℕ) (v : ℤ) → Judged so (rule signal v) Fine → LastHasRoom (s .book)
+  kept-room b signal v j =
+      let p = passed 0 so (after so (rule signal v)) (rule signal v) (sym (j 0)) in
+      record { book = so .book; held = kept-book; some = rule-some so b signal v p; atMost = b .range .policiesRoom; room = rule-room so b signal v p }
 
 -- the code's book so far after a line
 module _ (so : BookSoFar) (y : StoredBook) where

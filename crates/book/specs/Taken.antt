@@ -1,19 +1,20 @@
 -- What taking a line into the book means, and what every book so far keeps to.
-use Prim.Native.Nat.{ℕ, _≤_, _<_}
+use Prim.Native.Nat.{ℕ, _<_}
 use mathlib.Core.Bool.{Bool, true}
-use mathlib.Core.List.{List, map}
+use mathlib.Core.List.{List}
 use mathlib.Core.Option.{Option}
 use mathlib.Core.Path.{_≡_}
 use lib.IntN.{ℤ}
 use lib.ListN.{length}
 use Rattle.answers.specs.Answers.{Answer, result, refused}
-use Rattle.peal.specs.Policies.{Rule, Expression}
+use Rattle.peal.specs.Policies.{Expression}
 use Rattle.peal.specs.declared.Operator.{Operator}
 use Rattle.peal.specs.declared.Sense.{Sense}
-use Rattle.arith.specs.Lists.{padded, AllBelow, Distinct}
+use Rattle.arith.specs.Lists.{padded}
 use Rattle.book.specs.Forms.{policy, rule, condition, form}
-use Rattle.book.specs.Acceptance.{BookSoFar, noLine, defaultOf, defaultInRange, lastPolicy, accept}
+use Rattle.book.specs.Acceptance.{BookSoFar, noLine, defaultOf, defaultInRange, accept}
 use Rattle.book.specs.Books.{acceptForm}
+use Rattle.book.specs.Ranges.{BookInRange}
 use Rattle.book.specs.Codes.{codesOf}
 use Rattle.book.specs.Stored.{storedSoFar}
 use Rattle.book.specs.Judged.{verdictMeaning}
@@ -22,17 +23,10 @@ use Rattle.book.specs.declared.expressions.Parse.{Parse}
 use Rattle.book.specs.declared.stored.SoFar.{SoFar as StoredSoFar}
 use Rattle.book.specs.declared.taking.Taken.{Taken}
 
--- the signals of some rules
-abbrev pub signalsOf : List Rule → List ℕ
-signalsOf rules = map (λ (r : Rule). r .signal) rules
-
--- what every book so far keeps to: the limits, and different signals below 16 in the policy that rules are added to
+-- what every book so far keeps to: the ranges, and a policy to add rules to where rules may follow
 pub record Bounded (so : BookSoFar) : Type 0 where
-  pub policies : length (so .book .policies) ≤ 16
-  pub conditions : length (so .book .conditions) ≤ 8
+  pub range : BookInRange (so .book)
   pub some : so .inRules ≡ true → 0 < length (so .book .policies)
-  pub below : so .inRules ≡ true → AllBelow 16 (signalsOf (lastPolicy (so .book) .rules))
-  pub distinct : so .inRules ≡ true → Distinct (signalsOf (lastPolicy (so .book) .rules))
 
 -- a taken line n is what the definition's answer is
 abbrev pub TakenAs : ℕ → Answer BookSoFar → Taken → Type 0

@@ -1,7 +1,7 @@
 // The read book, by value: policies and conditions in book order. Cells beyond the counts are zeros.
-ghost use mathlib.Core.List.{List, [], _∷_, _++_};
+ghost use mathlib.Core.List.{[], _∷_, _++_};
 ghost use mathlib.Core.Path.{_≡_};
-ghost use Prim.Native.Nat.{_+_, _≤_, _<_};
+ghost use Prim.Native.Nat.{_+_, _<_};
 ghost use Rattle.peal.specs.Policies.{Policy as PealPolicy, Condition as PealCondition, Book as PealBook};
 ghost use Rattle.book.specs.Acceptance.{emptyBook, lastPolicy, withRule, withPolicies, withLast, withCondition};
 ghost use Rattle.book.specs.Stored.{storedPolicy, storedCondition, storedBook, LastHasRoom};

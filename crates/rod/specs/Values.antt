@@ -5,6 +5,7 @@ use mathlib.Core.List.{List, [], _∷_}
 use mathlib.Core.Path.{_≡_}
 use lib.ListN.{length, getD}
 use Rattle.answers.specs.Answers.{result}
+use Rattle.arith.specs.Lists.{Each}
 use Rattle.arith.specs.Trees.{run}
 use Rattle.layout.specs.Records.{Join, and, or, bit}
 use Rattle.layout.specs.Judgement.{SoFar, judged}
@@ -24,8 +25,7 @@ joinMeaning false = and
 
 -- every number is a signal set
 abbrev pub AllSets : List ℕ → Type 0
-AllSets [] = Unit {0}
-AllSets (l ∷ ls) = (l ≤ 65535) × AllSets ls
+AllSets ls = Each (λ (l : ℕ). l ≤ 65535) ls
 
 -- the policy at an index, with its flags and the lines behind it
 abbrev pub policyAt : List ℕ → ℕ → Bool → Bool → ListedPolicy

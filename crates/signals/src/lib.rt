@@ -3,7 +3,7 @@ ghost use mathlib.Core.Bool.{_&&_};
 ghost use mathlib.Core.List.{[], _∷_};
 ghost use mathlib.Core.Path.{_≡_};
 ghost use Prim.Native.Nat.{_≤_};
-ghost use Rattle.signals.specs.Sets.{isSet, inside, overlap, setOf};
+ghost use Rattle.signals.specs.Sets.{isSet, present, inside, overlap, setOf};
 
 // The set of one signal. The crates above have signals from 0 to 15 alone.
 pub fn bit(signal: u32) -> u32
@@ -11,6 +11,14 @@ pub fn bit(signal: u32) -> u32
     ensures { λ r. ⌜ r ≡ setOf (signal ∷ []) ⌝ }
 {
     1 << signal
+}
+
+// The signal is in the set.
+pub fn is_present(set: u16, signal: u32) -> bool
+    requires { ⌜ signal ≤ 15 ⌝ }
+    ensures { λ r. ⌜ r ≡ present set signal ⌝ }
+{
+    set as u32 >> signal & 1 == 1
 }
 
 // The mask is a signal set, and lies wholly inside the set.

@@ -8,7 +8,7 @@ use lib.ListN.{length}
 use Rattle.book.specs.Acceptance.{noLine}
 use Rattle.book.specs.declared.Reason.the-variants.{TooLong, NoForm}
 use Rattle.book.proofs.TextLaws.{end-within, piece-length}
-use Rattle.book.proofs.TakingLaws.{bounded-start}
+use Rattle.book.proofs.RangeLaws.{bounded-start}
 use Rattle.book.proofs.ReadLaws.{Going, start-held, tells-refusal, tells-book, read-long, read-open, read-refused, read-on, read-too-long, read-lines, read-end}
 use Rattle.book.proofs.reading.read.Statement.{statement}
 use Rattle.book.proofs.reading.read.Tie as tie

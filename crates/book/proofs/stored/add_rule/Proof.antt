@@ -1,5 +1,4 @@
 -- `book::stored::add_rule`: the last policy, with a rule more, is put back.
-use Prim.Native.Nat.{_-_}
 use mathlib.Core.Path.{_≡_}
 use native.Mathlib.Omega.{arith}
 use mir.Syntax.{w32}

@@ -4,13 +4,13 @@ use native.Mathlib.Omega.{arith}
 use mir.Syntax.{w32}
 use mir.ValLaws.{toZ-ofZ}
 use Rattle.book.specs.Forms.{condition}
-use Rattle.book.proofs.TakingLaws.{passed, bounded-condition, taken-fine, taken-refused, judged-as, condition-judged-at, kept-book, kept-opened, kept-asked, condition-so-far, stored-codes}
+use Rattle.book.proofs.TakingLaws.{taken-fine, taken-refused, judged-as, condition-judged-at, kept-book, kept-opened, kept-asked, condition-so-far, stored-codes}
 use borrow.Author.Needs.{needs}
 use Rattle.book.proofs.taking.take_condition.Statement.{statement}
 use Rattle.book.proofs.taking.take_condition.Tie as tie
 
 judge-condition-requires : tie.Need-judge-condition-requires
-judge-condition-requires c κs = let s = c .before in (omega (arith, kept-opened _ (s .pre .0 .0) (s .pre .0 .1), s .pre .0 .2 .policies), s .pre .1)
+judge-condition-requires c κs = let s = c .before in (omega (arith, kept-opened _ (s .pre .0 .0) (s .pre .0 .1), s .pre .0 .2 .range .policiesRoom), s .pre .1)
 
 enum-told : tie.Need-enum-told
 enum-told c = search needs
@@ -30,7 +30,7 @@ returns c =
     λ n so x e b l k.
     let h = condition-judged-at so _ (j .judge-condition .result) _ _ x z (j .judge-condition .ensures .0 so _ x (kept-asked _ so e) (kept-opened _ so e) l k) in
     let v = judged-as so (condition _ _ x) _ _ (m .enum-told .given .1) h in
-    taken-fine n so (condition _ _ x) _ v refl (condition-so-far so _ _ _ x (c .add-condition .ensures (so .book) _ (kept-book _ so e) (stored-codes _ _ _ _ _ x z l k))) (bounded-condition so b _ _ x (passed so (condition _ _ x) v))
+    taken-fine n so (condition _ _ x) _ b v refl (condition-so-far so _ _ _ x (c .add-condition .ensures (so .book) _ (kept-book _ so e) (stored-codes _ _ _ _ _ x z l k)))
 
 returns-2 : tie.Need-returns-2
 returns-2 c =

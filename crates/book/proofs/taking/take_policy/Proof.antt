@@ -3,7 +3,7 @@ use mathlib.Core.Path.{refl, _∙_}
 use mir.Syntax.{w32}
 use mir.ValLaws.{toZ-ofZ}
 use Rattle.book.specs.Forms.{policy}
-use Rattle.book.proofs.TakingLaws.{passed, bounded-policy, taken-fine, taken-refused, judged-as, kept-book, kept-opened, kept-asked, policy-so-far}
+use Rattle.book.proofs.TakingLaws.{taken-fine, taken-refused, judged-as, kept-book, kept-opened, kept-asked, policy-so-far}
 use borrow.Author.Needs.{needs}
 use Rattle.book.proofs.taking.take_policy.Statement.{statement}
 use Rattle.book.proofs.taking.take_policy.Tie as tie
@@ -27,9 +27,8 @@ returns c =
     let s = j .before .before in
     λ n so d e b z g.
     let v = judged-as so (policy _ d) _ _ (m .enum-told .given .1) (j .judge-policy .ensures .0 so _ d (kept-asked _ so e) (kept-opened _ so e) g) in
-    taken-fine n so (policy _ d) _ v refl
+    taken-fine n so (policy _ d) _ b v refl
     (policy-so-far so _ _ d _ (toZ-ofZ w32 (s .args .default) (s .fits .default) ∙ z) (c .add-policy .ensures (so .book) (kept-book _ so e)))
-    (bounded-policy so b _ d (passed so (policy _ d) v))
 
 returns-2 : tie.Need-returns-2
 returns-2 c =

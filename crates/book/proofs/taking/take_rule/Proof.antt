@@ -1,11 +1,10 @@
 -- `book::taking::take_rule`: by the verdict, and refused out of place where rules are not open.
-use Prim.Native.Nat.{_-_}
 use mathlib.Core.Path.{refl, sym, _∙_}
 use native.Mathlib.Omega.{arith}
 use mir.Syntax.{w32}
 use mir.ValLaws.{toZ-ofZ}
 use Rattle.book.specs.Forms.{rule}
-use Rattle.book.proofs.TakingLaws.{passed, bounded-rule, taken-fine, taken-refused, judged-as, rule-judged-at, rule-held-at, out-of-rules, kept-book, kept-inside, kept-opened, kept-last, kept-count, kept-room, rule-so-far}
+use Rattle.book.proofs.TakingLaws.{taken-fine, taken-refused, judged-as, rule-judged-at, rule-held-at, out-of-rules, kept-book, kept-inside, kept-opened, kept-last, kept-count, kept-room, rule-so-far}
 use borrow.Author.Needs.{needs}
 use Rattle.book.proofs.taking.take_rule.Statement.{statement}
 use Rattle.book.proofs.taking.take_rule.Tie as tie
@@ -14,10 +13,10 @@ sub-i : tie.Need-sub-i
 sub-i c = let s = c .before .before in omega (arith, kept-opened _ (s .pre .0) (s .pre .1), s .pre .2 .some (sym (kept-inside _ (s .pre .0) (s .pre .1)) ∙ c .if1 .taken))
 
 mul-p : tie.Need-mul-p
-mul-p c = let s = c .before .before in omega (arith, kept-opened _ (s .pre .0) (s .pre .1), s .pre .2 .policies, s .pre .2 .some (sym (kept-inside _ (s .pre .0) (s .pre .1)) ∙ c .if1 .taken))
+mul-p c = let s = c .before .before in omega (arith, kept-opened _ (s .pre .0) (s .pre .1), s .pre .2 .range .policiesRoom, s .pre .2 .some (sym (kept-inside _ (s .pre .0) (s .pre .1)) ∙ c .if1 .taken))
 
 element-copy-out-p : tie.Need-element-copy-out-p
-element-copy-out-p c = let s = c .before .before in omega (arith, kept-opened _ (s .pre .0) (s .pre .1), s .pre .2 .policies, s .pre .2 .some (sym (kept-inside _ (s .pre .0) (s .pre .1)) ∙ c .if1 .taken))
+element-copy-out-p c = let s = c .before .before in omega (arith, kept-opened _ (s .pre .0) (s .pre .1), s .pre .2 .range .policiesRoom, s .pre .2 .some (sym (kept-inside _ (s .pre .0) (s .pre .1)) ∙ c .if1 .taken))
 
 judge-rule-requires : tie.Need-judge-rule-requires
 judge-rule-requires c κs = let s = c .before .before .before in kept-count _ (s .pre .0) (s .pre .1) (s .pre .2) (c .before .if1 .taken) _
@@ -34,7 +33,7 @@ add-rule-requires c κs =
     let e = s .pre .1 in
     let b = s .pre .2 in
     let h = rule-judged-at so _ (j .judge-rule .result) _ _ (toZ-ofZ w32 (s .args .score) (s .fits .score)) (j .judge-rule .ensures so (kept-inside _ so e) (kept-last _ so e b (i .if1 .taken) _)) in
-    kept-room _ so e b _ _ (passed so (rule _ _) (judged-as so (rule _ _) _ _ (c .enum-told .given .1) h))
+    kept-room _ so e b _ _ (judged-as so (rule _ _) _ _ (c .enum-told .given .1) h)
 
 enum-known-v : tie.Need-enum-known-v
 enum-known-v c = search needs
@@ -49,7 +48,7 @@ returns c =
     λ n so e b.
     let h = rule-judged-at so _ (j .judge-rule .result) _ _ z (j .judge-rule .ensures so (kept-inside _ so e) (kept-last _ so e b (i .if1 .taken) _)) in
     let v = judged-as so (rule _ _) _ _ (m .enum-told .given .1) h in
-    taken-fine n so (rule _ _) _ v refl (rule-so-far so _ _ _ (rule-held-at so _ _ _ _ z (c .add-rule .ensures (so .book) (kept-book _ so e)))) (bounded-rule so b _ _ (passed so (rule _ _) v))
+    taken-fine n so (rule _ _) _ b v refl (rule-so-far so _ _ _ (rule-held-at so _ _ _ _ z (c .add-rule .ensures (so .book) (kept-book _ so e))))
 
 returns-2 : tie.Need-returns-2
 returns-2 c =

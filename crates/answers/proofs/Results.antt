@@ -1,0 +1,22 @@
+-- Answers that are results.
+use Prim.Native.Nat.{ℕ}
+use mathlib.Core.Bool.{Bool, true, false}
+use mathlib.Core.Path.{_≡_, refl, sym}
+use native.Mathlib.Omega.{arith}
+use Rattle.answers.specs.Answers.{Answer, result, refused, onResult, require}
+
+pub no-refusal : {X A : Type 0} {a : A} {k v : ℕ} → result a ≡ refused k v → X
+no-refusal h = let z : _≡_ {A = ℕ} 0 1 = cc in absurd (omega arith)
+
+pub result-is : {A : Type 0} {x y : A} → result x ≡ result y → x ≡ y
+result-is h = cc
+
+-- a required test holds, and the result is what follows it
+pub required : {A : Type 0} (t : Bool) (k v : ℕ) (a : Answer A) (x : A) → require t k v a ≡ result x → (t ≡ true) × (a ≡ result x)
+required true k v a x h = (refl, h)
+required false k v a x h = no-refusal (sym h)
+
+-- a result that was gone on to comes from a result
+pub gone-on : {A B : Type 0} (a : Answer A) (f : A → Answer B) (y : B) → onResult a f ≡ result y → (x : A) × (a ≡ result x) × (f x ≡ result y)
+gone-on (result x) f y h = (x, refl, h)
+gone-on (refused k v) f y h = no-refusal (sym h)

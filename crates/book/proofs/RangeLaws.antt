@@ -1,0 +1,191 @@
+-- An accepted line keeps the book so far within bounds, so every book that is read is in range.
+use Prim.Native.Nat.{ℕ, _+_, _-_, _≤_, _<_}
+use mathlib.Core.Bool.{Bool, true, false, _&&_}
+use mathlib.Core.List.{List, [], _∷_, _++_, map-append}
+use mathlib.Core.Option.{Option, none, some}
+use mathlib.Core.Path.{_≡_, refl, sym, subst, _∙_}
+use native.Mathlib.Omega.{arith}
+use lib.Dec.{leb, eqb}
+use lib.IntN.{ℤ, pos, negℤ}
+use lib.ListN.{length, length-append, length-set, length-map}
+use borrow.Author.Tests.{leb-true, ltb-true, eqb-true, not-true}
+use Rattle.answers.specs.Answers.{Answer, result, refused, onResult, require}
+use Rattle.answers.proofs.Results.{no-refusal, result-is, required, gone-on}
+use Rattle.arith.specs.Lists.{any, AllBelow, Distinct}
+use Rattle.arith.proofs.Distinct.{at-most, distinct-more}
+use Rattle.arith.proofs.Each.{each-none, each-get, each-more, each-set}
+use Rattle.arith.proofs.Tests.{and-left, and-right, clash}
+use Rattle.peal.specs.Policies.{Rule, Policy, Condition, Book, policyAt}
+use Rattle.peal.specs.declared.Operator.{Operator}
+use Rattle.peal.specs.declared.Operator.the-variants.{Mul}
+use Rattle.book.specs.Text.{Line, textLines}
+use Rattle.book.specs.Forms.{Form, policy, rule, condition, form}
+use Rattle.book.specs.Acceptance.{BookSoFar, noLine, emptyBook, lastPolicy, inPlace, inCount, roomForRule, within, defaultInRange, scoreInRange, mentionsBelow, inRange, isNew, defaultOf, withRule, withPolicies, withLast, withCondition, bookWith, opensRules, accept}
+use Rattle.book.specs.Books.{acceptForm, readLine, readLines, read}
+use Rattle.book.specs.Ranges.{signalsOf, PolicyInRange, ConditionInRange, BookInRange}
+use Rattle.book.specs.Judged.{after}
+use Rattle.book.specs.Taken.{Bounded}
+use Rattle.book.proofs.JudgeLaws.{accept-fine, any-map}
+
+-- ---- what an accepted line has passed
+
+pub record Passed (so : BookSoFar) (f : Form) : Type 0 where
+  pub place : inPlace so f ≡ true
+  pub count : inCount so f ≡ true
+  pub range : inRange so f ≡ true
+  pub new : isNew so f ≡ true
+
+pub passed : (n : ℕ) (so next : BookSoFar) (f : Form) → accept n so f ≡ result next → Passed so f
+unfolding accept
+passed n so next f h =
+    let a = required (inPlace so f) 3 n _ next h in
+    let b = required (inCount so f) 4 n _ next (a .1) in
+    let c = required (inRange so f) 5 n _ next (b .1) in
+    let d = required (isNew so f) 6 n _ next (c .1) in
+    record { place = a .0; count = b .0; range = c .0; new = d .0 }
+
+-- ---- a policy and a condition
+
+new-in-range : (o : Operator) (d : Option ℤ) → defaultInRange d ≡ true → PolicyInRange (record { operator = o; default = defaultOf o d; rules = [] })
+unfolding defaultInRange defaultOf within
+new-in-range o none h = record { default = refl; signals = tt; distinct = tt; scores = tt; room = λ _. omega arith }
+new-in-range o (some d) h = record { default = h; signals = tt; distinct = tt; scores = tt; room = λ _. omega arith }
+
+room-in-mul : (o : Operator) (rules : List Rule) → roomForRule o rules ≡ true → o ≡ Mul → length rules < 8
+unfolding roomForRule
+room-in-mul o rules h e = ltb-true (length rules) 8 (subst (λ (x : Operator). roomForRule x rules ≡ true) e h)
+
+module _ (p : Policy) (h : PolicyInRange p) where
+  -- sixteen different signals are all there are
+  pub rules-at-most : length (p .rules) ≤ 16
+  rules-at-most = omega (arith, at-most 16 (signalsOf (p .rules)) (h .signals) (h .distinct), length-map (p .rules) (λ (r : Rule). r .signal))
+
+  rule-added : (r : Rule) → roomForRule (p .operator) (p .rules) ≡ true → r .signal < 16 → scoreInRange (p .operator) (r .score) ≡ true
+      → any (λ (x : Rule). eqb (x .signal) (r .signal)) (p .rules) ≡ false → PolicyInRange (withRule p r)
+  unfolding withRule
+  rule-added r room small score new =
+      let more : signalsOf (p .rules ++ (r ∷ [])) ≡ signalsOf (p .rules) ++ (r .signal ∷ []) = map-append (λ (x : Rule). x .signal) (p .rules) (r ∷ []) in
+      record {
+        default = h .default;
+        signals = subst (AllBelow 16) (sym more) (each-more (λ (x : ℕ). x < 16) (signalsOf (p .rules)) (r .signal) (h .signals) small);
+        distinct = subst Distinct (sym more) (distinct-more (signalsOf (p .rules)) (r .signal) (h .distinct) (any-map (r .signal) (p .rules) ∙ new));
+        scores = each-more (λ (x : Rule). scoreInRange (p .operator) (x .score) ≡ true) (p .rules) r (h .scores) score;
+        room = λ e. omega (arith, length-append (p .rules) (r ∷ []), room-in-mul (p .operator) (p .rules) room e);
+      }
+
+condition-in-range : (n : ℕ) (c : Condition) → (within (negℤ (pos 200000)) (pos 200000) (c .threshold) && mentionsBelow n (c .expression)) ≡ true → ConditionInRange n c
+condition-in-range n c h =
+    let t : Bool = within (negℤ (pos 200000)) (pos 200000) (c .threshold) in
+    let m : Bool = mentionsBelow n (c .expression) in
+    record { threshold = and-left t m h; mentions = and-right t m h }
+
+-- ---- a book
+
+module _ (b : Book) (h : BookInRange b) where
+  pub last-in-range : 0 < length (b .policies) → PolicyInRange (lastPolicy b)
+  unfolding lastPolicy policyAt
+  last-in-range s = each-get PolicyInRange (b .policies) (length (b .policies) - 1) _ (h .policies) (omega arith)
+
+  policy-added : (p : Policy) → length (b .conditions) ≡ 0 → length (b .policies) < 16 → PolicyInRange p → BookInRange (withPolicies b (b .policies ++ (p ∷ [])))
+  unfolding withPolicies
+  policy-added p empty room k =
+      record {
+        policiesRoom = omega (arith, length-append (b .policies) (p ∷ []));
+        conditionsRoom = h .conditionsRoom;
+        policies = each-more PolicyInRange (b .policies) p (h .policies) k;
+        conditions = each-none (ConditionInRange (length (b .policies ++ (p ∷ [])))) (b .conditions) empty;
+      }
+
+  last-changed : (p : Policy) → PolicyInRange p → BookInRange (withLast b p)
+  unfolding withLast withPolicies
+  last-changed p k =
+      let same = length-set (b .policies) (length (b .policies) - 1) p in
+      record {
+        policiesRoom = omega (arith, h .policiesRoom);
+        conditionsRoom = h .conditionsRoom;
+        policies = each-set PolicyInRange (b .policies) (length (b .policies) - 1) p (h .policies) k;
+        conditions = rw same (h .conditions);
+      }
+
+  condition-added : (c : Condition) → length (b .conditions) < 8 → ConditionInRange (length (b .policies)) c → BookInRange (withCondition b c)
+  unfolding withCondition
+  condition-added c room k =
+      record {
+        policiesRoom = h .policiesRoom;
+        conditionsRoom = omega (arith, length-append (b .conditions) (c ∷ []));
+        policies = h .policies;
+        conditions = each-more (ConditionInRange (length (b .policies))) (b .conditions) c (h .conditions) k;
+      }
+
+-- ---- the book so far
+
+pub bounded-start : Bounded noLine
+unfolding noLine emptyBook
+bounded-start = record { range = record { policiesRoom = omega arith; conditionsRoom = omega arith; policies = tt; conditions = tt }; some = λ h. clash h refl }
+
+-- the last policy with one rule more
+abbrev changed : BookSoFar → ℕ → ℤ → Policy
+changed so s v = withRule (lastPolicy (so .book)) (record { signal = s; score = v })
+
+module _ (so : BookSoFar) (b : Bounded so) where
+  module _ (s : ℕ) (v : ℤ) (p : Passed so (rule s v)) where
+    pub rule-some : 0 < length (so .book .policies)
+    unfolding inPlace
+    rule-some = b .some (p .place)
+
+    changed-in-range : PolicyInRange (changed so s v)
+    unfolding inCount inRange isNew
+    changed-in-range =
+        let o : Operator = lastPolicy (so .book) .operator in
+        rule-added (lastPolicy (so .book)) (last-in-range (so .book) (b .range) rule-some) (record { signal = s; score = v }) (p .count)
+        (omega (arith, leb-true s 15 (and-left (leb s 15) (scoreInRange o v) (p .range))))
+        (and-right (leb s 15) (scoreInRange o v) (p .range))
+        (not-true _ (p .new))
+
+    pub rule-room : length (lastPolicy (so .book) .rules) < 16
+    unfolding withRule
+    rule-room = omega (arith, rules-at-most (changed so s v) changed-in-range, length-append (lastPolicy (so .book) .rules) (record { signal = s; score = v } ∷ []))
+
+  bounded-after : (f : Form) → Passed so f → Bounded (after so f)
+  unfolding after bookWith opensRules inPlace inCount inRange withPolicies withLast
+  bounded-after (policy o d) p =
+      let q : Policy = record { operator = o; default = defaultOf o d; rules = [] } in
+      let empty = eqb-true (length (so .book .conditions)) 0 (p .place) in
+      let room = ltb-true (length (so .book .policies)) 16 (p .count) in
+      record { range = policy-added (so .book) (b .range) q empty room (new-in-range o d (p .range)); some = λ _. omega (arith, length-append (so .book .policies) (q ∷ [])) }
+  bounded-after (rule s v) p =
+      let same = length-set (so .book .policies) (length (so .book .policies) - 1) (changed so s v) in
+      record { range = last-changed (so .book) (b .range) (changed so s v) (changed-in-range s v p); some = λ _. omega (arith, rule-some s v p) }
+  bounded-after (condition c t e) p =
+      let k : Condition = record { sense = c; threshold = t; expression = e } in
+      let room = ltb-true (length (so .book .conditions)) 8 (p .count) in
+      record { range = condition-added (so .book) (b .range) k room (condition-in-range (length (so .book .policies)) k (p .range)); some = λ h. clash h refl }
+
+pub accept-bounded : (n : ℕ) (so next : BookSoFar) (f : Form) → Bounded so → accept n so f ≡ result next → Bounded next
+accept-bounded n so next f b h =
+    let p = passed n so next f h in
+    subst Bounded (result-is (accept-fine n so f (p .place) (p .count) (p .range) (p .new) ∙ h)) (bounded-after so b f p)
+
+-- ---- the lines from the top
+
+form-bounded : (n : ℕ) (so next : BookSoFar) (o : Option Form) → Bounded so → acceptForm n so o ≡ result next → Bounded next
+unfolding acceptForm
+form-bounded n so next none b h = no-refusal (sym h)
+form-bounded n so next (some f) b h = accept-bounded n so next f b h
+
+line-bounded : (n : ℕ) (so next : BookSoFar) (l : Line) → Bounded so → readLine n so l ≡ result next → Bounded next
+unfolding readLine
+line-bounded n so next l b h =
+    let short = required (leb (length (l .text)) 128) 1 n _ next h in
+    form-bounded n so next (form (l .text)) b (required (l .ended) 2 n _ next (short .1) .1)
+
+lines-in-range : (n : ℕ) (so : BookSoFar) (ls : List Line) (b : Book) → Bounded so → readLines n so ls ≡ result b → BookInRange b
+unfolding readLines
+lines-in-range n so [] b k h = subst BookInRange (result-is h) (k .range)
+lines-in-range n so (l ∷ ls) b k h =
+    let x = gone-on (readLine n so l) (λ next. readLines (n + 1) next ls) b h in
+    lines-in-range (n + 1) (x .0) ls b (line-bounded n so (x .0) l k (x .1)) (x .2)
+
+pub read-in-range : (bytes : List ℕ) (b : Book) → read bytes ≡ result b → BookInRange b
+unfolding read
+read-in-range bytes b h = lines-in-range 1 noLine (textLines bytes) b bounded-start (required (leb (length bytes) 8192) 1 0 _ b h .1)

@@ -1,0 +1,35 @@
+-- What every accepted book keeps to (document 01, "Ranges" and the limits of "The book"); proved in proofs/RangeLaws.antt.
+use Prim.Native.Nat.{ℕ, _≤_}
+use mathlib.Core.Bool.{true}
+use mathlib.Core.List.{List, map}
+use mathlib.Core.Path.{_≡_}
+use lib.IntN.{pos, negℤ}
+use lib.ListN.{length}
+use Rattle.arith.specs.Lists.{Each, AllBelow, Distinct}
+use Rattle.peal.specs.Policies.{Rule, Policy, Condition, Book}
+use Rattle.peal.specs.declared.Operator.the-variants.{Mul}
+use Rattle.book.specs.Acceptance.{within, scoreInRange, mentionsBelow}
+
+-- the signals of some rules
+abbrev pub signalsOf : List Rule → List ℕ
+signalsOf rules = map (λ (r : Rule). r .signal) rules
+
+-- D, the different signals, the scores, and at most 8 rules in mul
+pub record PolicyInRange (p : Policy) : Type 0 where
+  pub default : within (negℤ (pos 10000)) (pos 10000) (p .default) ≡ true
+  pub signals : AllBelow 16 (signalsOf (p .rules))
+  pub distinct : Distinct (signalsOf (p .rules))
+  pub scores : Each (λ (r : Rule). scoreInRange (p .operator) (r .score) ≡ true) (p .rules)
+  pub room : p .operator ≡ Mul → length (p .rules) ≤ 8
+
+-- T, and mentions of the first n policies alone
+pub record ConditionInRange (n : ℕ) (c : Condition) : Type 0 where
+  pub threshold : within (negℤ (pos 200000)) (pos 200000) (c .threshold) ≡ true
+  pub mentions : mentionsBelow n (c .expression) ≡ true
+
+-- at most 16 policies and 8 conditions, each in range
+pub record BookInRange (b : Book) : Type 0 where
+  pub policiesRoom : length (b .policies) ≤ 16
+  pub conditionsRoom : length (b .conditions) ≤ 8
+  pub policies : Each PolicyInRange (b .policies)
+  pub conditions : Each (ConditionInRange (length (b .policies))) (b .conditions)
