@@ -1,7 +1,7 @@
 -- Answers that are results.
 use Prim.Native.Nat.{ℕ}
 use mathlib.Core.Bool.{Bool, true, false}
-use mathlib.Core.Path.{_≡_, refl, sym}
+use mathlib.Core.Path.{_≡_, refl, sym, ap}
 use native.Mathlib.Omega.{arith}
 use Rattle.answers.specs.Answers.{Answer, result, refused, onResult, require}
 
@@ -20,3 +20,12 @@ required false k v a x h = no-refusal (sym h)
 pub gone-on : {A B : Type 0} (a : Answer A) (f : A → Answer B) (y : B) → onResult a f ≡ result y → (x : A) × (a ≡ result x) × (f x ≡ result y)
 gone-on (result x) f y h = (x, refl, h)
 gone-on (refused k v) f y h = no-refusal (sym h)
+
+-- a refusal where every result is gone on to was there before
+pub passed-up : {A B : Type 0} (a : Answer A) (f : A → B) (k v : ℕ) → onResult a (λ x. result (f x)) ≡ refused k v → a ≡ refused k v
+passed-up (result x) f k v h = no-refusal h
+passed-up {A} {B} (refused i j) f k v h = ap again h
+  where
+    again : Answer B → Answer A
+    again (result x) = refused k v
+    again (refused m n) = refused m n

@@ -9,7 +9,7 @@ use lib.Dec.{leb, eqb}
 use lib.IntN.{ℤ, pos, negℤ}
 use lib.ListN.{length, length-append, length-set, length-map}
 use borrow.Author.Tests.{leb-true, ltb-true, eqb-true, not-true}
-use Rattle.answers.specs.Answers.{Answer, result, refused, onResult, require}
+use Rattle.answers.specs.Answers.{result}
 use Rattle.answers.proofs.Results.{no-refusal, result-is, required, gone-on}
 use Rattle.arith.specs.Lists.{any, AllBelow, Distinct}
 use Rattle.arith.proofs.Distinct.{at-most, distinct-more}
@@ -82,9 +82,13 @@ condition-in-range n c h =
 -- ---- a book
 
 module _ (b : Book) (h : BookInRange b) where
+  pub policy-in-range : (i : ℕ) → i < length (b .policies) → PolicyInRange (policyAt (b .policies) i)
+  unfolding policyAt
+  policy-in-range i s = each-get PolicyInRange (b .policies) i _ (h .policies) s
+
   pub last-in-range : 0 < length (b .policies) → PolicyInRange (lastPolicy b)
-  unfolding lastPolicy policyAt
-  last-in-range s = each-get PolicyInRange (b .policies) (length (b .policies) - 1) _ (h .policies) (omega arith)
+  unfolding lastPolicy
+  last-in-range s = policy-in-range (length (b .policies) - 1) (omega arith)
 
   policy-added : (p : Policy) → length (b .conditions) ≡ 0 → length (b .policies) < 16 → PolicyInRange p → BookInRange (withPolicies b (b .policies ++ (p ∷ [])))
   unfolding withPolicies

@@ -9,12 +9,13 @@ use native.Mathlib.Omega.{arith}
 use lib.ListN.{length, take, drop, length-drop}
 use borrow.Author.Tests.{le-leb, lt-leb}
 use Rattle.answers.specs.Answers.{Answer, result, refused, onResult}
-use Rattle.answers.proofs.Results.{no-refusal}
+use Rattle.answers.proofs.Results.{no-refusal, result-is, gone-on, passed-up}
+use Rattle.peal.specs.Policies.{Book}
 use Rattle.book.specs.Text.{textLines}
 use Rattle.book.specs.Spelling.{upTo}
 use Rattle.book.specs.Forms.{form}
 use Rattle.book.specs.Acceptance.{BookSoFar, noLine, emptyBook}
-use Rattle.book.specs.Books.{acceptForm, readLine, readLines, read, checked}
+use Rattle.book.specs.Books.{acceptForm, readLine, readLines, read, Counts, checked}
 use Rattle.book.specs.Stored.{storedBook, storedSoFar}
 use Rattle.book.specs.Judged.{verdictMeaning}
 use Rattle.book.specs.Taken.{Bounded, TakenAs}
@@ -122,3 +123,14 @@ pub tells-book : (s : List ℕ) (so : BookSoFar) (kept : StoredSoFar) (r : BookR
 unfolding checked bookOrEmpty storedSoFar storedBook
 tells-book s so kept r h e a =
     (ap checkedMeaning (a .0) ∙ ap (λ (x : StoredSoFar). checkedMeaning (Accepted (x .book .opened) (x .book .asked))) h ∙ rw e, a .1 ∙ ap (λ (x : StoredSoFar). x .book) h ∙ rw e)
+
+-- ---- what a check told, for the crates above
+
+module _ (s : List ℕ) where
+  pub checked-result : (n : Counts) → checked s ≡ result n → (b : Book) × (read s ≡ result b) × (n .conditions ≡ length (b .conditions))
+  unfolding checked
+  checked-result n h = let x = gone-on (read s) _ n h in (x .0, x .1, sym (ap (λ (c : Counts). c .conditions) (result-is (x .2))))
+
+  pub checked-refused : (k v : ℕ) → checked s ≡ refused k v → read s ≡ refused k v
+  unfolding checked
+  checked-refused k v h = passed-up (read s) (λ b. record { policies = length (b .policies); conditions = length (b .conditions) }) k v h

@@ -71,7 +71,7 @@ fn step(s: Scan, b: u8, words: &mut [u32]) -> Scan
     if d == 10 {
         return ended(s, b, words);
     }
-    if s.value > 429496728 {
+    if s.value > 429496729 {
         return s;
     }
     Scan {

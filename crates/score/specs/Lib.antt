@@ -1,3 +1,6 @@
 pub mod Decisions
 pub mod Meaning
+pub mod Pairs
+pub mod PolicyScores
+pub mod ExpressionScores
 pub mod Computing

@@ -1,0 +1,179 @@
+-- The score of a policy, its rules one by one: the operator over the present rules, and how large it is.
+use Prim.Native.Nat.{ℕ, zero, suc, _+_, _-_, _*_, _^_, _≤_}
+use mathlib.Core.Bool.{Bool, true, false, cond}
+use mathlib.Core.List.{List, [], _∷_}
+use mathlib.Core.Path.{_≡_, refl, sym, ap, subst, _∙_}
+use lib.Dec.{T, leb}
+use native.Mathlib.Nat.{le-trans, mul-one, mul-le-mul, pow-suc, pow-le-pow-right}
+use native.Mathlib.Numerals.{add-one}
+use native.Mathlib.Omega.{arith}
+use lib.IntN.{ℤ, pos, negsuc, negℤ, natAbs, _+ℤ_, _*ℤ_, +ℤ-idr}
+use lib.ListN.{length}
+use lib.Signed.{mag, leZ, nonNeg}
+use mir.Syntax.{w64}
+use mir.Val.{Fits, SFits}
+use borrow.Author.Tests.{leb-true}
+use Rattle.arith.specs.Lists.{Each}
+use Rattle.arith.proofs.Signed.{mag-add}
+use Rattle.arith.proofs.Tests.{and-left, and-right, clash}
+use Rattle.signals.specs.Sets.{present}
+use Rattle.peal.specs.Policies.{Rule, Policy, MinMax, smaller, larger}
+use Rattle.peal.specs.Score.{scaled, total, product, scaledProduct, ofTwo, ofAll, applied}
+use Rattle.peal.specs.declared.Operator.{Operator}
+use Rattle.peal.specs.declared.Operator.the-variants.{Min, Max, Sum, Mul}
+use Rattle.book.specs.Acceptance.{within, scoreInRange}
+use Rattle.score.specs.PolicyScores.{combinedOf, over, presentOf, valueWith, withScore}
+use Rattle.score.specs.declared.policies.Present.{Present}
+
+-- ---- the operator over rules, as it is defined
+
+over-all : (m : MinMax) (o : Operator) → ((v w : ℤ) → combinedOf o v w ≡ ofTwo m v w) → (r : Rule) (rs : List Rule) → over o r rs ≡ ofAll m r rs
+unfolding over ofAll
+over-all m o h r [] = refl
+over-all m o h r (q ∷ rs) = h (r .score) (over o q rs) ∙ ap (ofTwo m (r .score)) (over-all m o h q rs)
+
+over-sum : (r : Rule) (rs : List Rule) → over Sum r rs ≡ total (r ∷ rs)
+unfolding over combinedOf total
+over-sum r [] = sym (+ℤ-idr (r .score))
+over-sum r (q ∷ rs) = ap (λ (z : ℤ). r .score +ℤ z) (over-sum q rs)
+
+times-one : (z : ℤ) → z *ℤ pos 1 ≡ z
+times-one (pos n) = ap pos (mul-one n)
+times-one (negsuc n) = ap (λ (k : ℕ). negℤ (pos k)) (mul-one (suc n))
+
+over-mul : (r : Rule) (rs : List Rule) → over Mul r rs ≡ product (r ∷ rs)
+unfolding over combinedOf product
+over-mul r [] = sym (times-one (r .score))
+over-mul r (q ∷ rs) = ap (λ (z : ℤ). r .score *ℤ z) (over-mul q rs)
+
+-- in parts
+pub applied-min : (r : Rule) (rs : List Rule) → scaled (over Min r rs) ≡ applied Min r rs
+unfolding applied combinedOf
+applied-min r rs = ap scaled (over-all smaller Min (λ v w. refl) r rs)
+
+pub applied-max : (r : Rule) (rs : List Rule) → scaled (over Max r rs) ≡ applied Max r rs
+unfolding applied combinedOf
+applied-max r rs = ap scaled (over-all larger Max (λ v w. refl) r rs)
+
+pub applied-sum : (r : Rule) (rs : List Rule) → scaled (over Sum r rs) ≡ applied Sum r rs
+unfolding applied
+applied-sum r rs = ap scaled (over-sum r rs)
+
+pub applied-mul : (r : Rule) (rs : List Rule) → over Mul r rs *ℤ pos (100 ^ (8 - length (r ∷ rs))) ≡ applied Mul r rs
+unfolding applied scaledProduct
+applied-mul r rs = ap (λ (z : ℤ). z *ℤ pos (100 ^ (8 - length (r ∷ rs)))) (over-mul r rs)
+
+-- ---- two scores, as the code combines them
+
+pub min-is : (v w : ℤ) (t : Bool) → leZ v w ≡ t → combinedOf Min v w ≡ cond t v w
+unfolding combinedOf ofTwo
+min-is v w t e = ap (λ (b : Bool). cond b v w) e
+
+pub max-is : (v w : ℤ) (t : Bool) → leZ v w ≡ t → combinedOf Max v w ≡ cond t w v
+unfolding combinedOf ofTwo
+max-is v w t e = ap (λ (b : Bool). cond b w v) e
+
+pub small-fits : (z : ℤ) → mag z ≤ 10 ^ 16 → SFits w64 z
+small-fits z h = record { sfits = omega arith }
+
+pub natural-fits : (z : ℤ) (n : ℕ) → z ≡ pos n → n ≤ 10 ^ 16 → T (nonNeg z) × Fits w64 (natAbs z)
+natural-fits z n e h = subst (λ (y : ℤ). T (nonNeg y) × Fits w64 (natAbs y)) (sym e) (tt, omega arith)
+
+-- ---- one rule more
+
+module _ (o : Operator) (so : Present) (v : ℤ) where
+  pub with-first : so .count ≡ 0 → _≡_ {A = Present} (record { count = 1; value = v }) (withScore o so v)
+  unfolding withScore valueWith
+  with-first e = ap (λ (n : ℕ). record { count = suc n; value = valueWith o n (so .value) v }) (sym e)
+
+  with-more : (n : ℕ) → (n ≡ 0 → ⊥) → valueWith o n (so .value) v ≡ combinedOf o v (so .value)
+  unfolding valueWith
+  with-more zero h = absurd (h refl)
+  with-more (suc n) h = refl
+
+  pub with-another : (so .count ≡ 0 → ⊥) → _≡_ {A = Present} (record { count = so .count + 1; value = combinedOf o v (so .value) }) (withScore o so v)
+  unfolding withScore
+  with-another h = λ i. record { count = add-one (so .count) i; value = sym (with-more (so .count) h) i }
+
+  pub another-small : (so .count ≡ 0 → ⊥) → mag (withScore o so v .value) ≤ 10 ^ 16 → mag (combinedOf o v (so .value)) ≤ 10 ^ 16
+  unfolding withScore
+  another-small h k = subst (λ (z : ℤ). mag z ≤ 10 ^ 16) (with-more (so .count) h) k
+
+pub present-more : (p : Policy) (r : Rule) (rs : List Rule) → withScore (p .operator) (presentOf p rs) (r .score) ≡ presentOf p (r ∷ rs)
+unfolding withScore valueWith presentOf over
+present-more p r [] = refl
+present-more p r (q ∷ rs) = refl
+
+-- ---- how large the operator over rules is
+
+pub within-mag : (lo hi : ℕ) (z : ℤ) → within (negℤ (pos lo)) (pos hi) z ≡ true → (n : ℕ) → lo ≤ n → hi ≤ n → mag z ≤ n
+unfolding within
+within-mag lo hi (pos z) h n l k = omega (arith, leb-true z hi (and-right (leZ (negℤ (pos lo)) (pos z)) (leb z hi) h))
+within-mag zero hi (negsuc z) h n l k = clash h refl
+within-mag (suc lo) hi (negsuc z) h n l k = omega (arith, leb-true z lo (and-left (leb z lo) true h))
+
+-- a score in mul is a natural
+mul-score : (v : ℤ) → scoreInRange Mul v ≡ true → (n : ℕ) × (v ≡ pos n) × (n ≤ 100)
+unfolding scoreInRange within
+mul-score (pos n) h = (n, refl, leb-true n 100 (and-right (leb 0 n) (leb n 100) h))
+mul-score (negsuc n) h = clash h refl
+
+score-mag : (o : Operator) (v : ℤ) → scoreInRange o v ≡ true → mag v ≤ 10000
+unfolding scoreInRange
+score-mag Min v h = within-mag 10000 10000 v h 10000 (omega arith) (omega arith)
+score-mag Max v h = within-mag 10000 10000 v h 10000 (omega arith) (omega arith)
+score-mag Sum v h = within-mag 0 10000 v h 10000 (omega arith) (omega arith)
+score-mag Mul v h = within-mag 0 100 v h 10000 (omega arith) (omega arith)
+
+abbrev pub InScore : Operator → Rule → Type 0
+InScore o r = scoreInRange o (r .score) ≡ true
+
+abbrev pub InRange : Operator → List Rule → Type 0
+InRange o rules = Each (InScore o) rules
+
+one-mag : (t : Bool) (v w : ℤ) (n : ℕ) → mag v ≤ n → mag w ≤ n → mag (cond t v w) ≤ n
+one-mag true v w n p q = p
+one-mag false v w n p q = q
+
+two-mag : (m : MinMax) (v w : ℤ) (n : ℕ) → mag v ≤ n → mag w ≤ n → mag (ofTwo m v w) ≤ n
+unfolding ofTwo
+two-mag smaller v w n p q = one-mag (leZ v w) v w n p q
+two-mag larger v w n p q = one-mag (leZ v w) w v n q p
+
+-- n rules at most, in an operator
+abbrev bound : Operator → ℕ → ℕ
+bound Min n = 10000
+bound Max n = 10000
+bound Sum n = 10001 * n
+bound Mul n = 100 ^ n
+
+pub mul-natural : (r : Rule) (rs : List Rule) → InRange Mul (r ∷ rs) → (n : ℕ) × (over Mul r rs ≡ pos n) × (n ≤ 100 ^ length (r ∷ rs))
+unfolding over combinedOf
+mul-natural r [] h = let s = mul-score (r .score) (h .0) in (s .0, s .1, omega (arith, s .2))
+mul-natural r (q ∷ rs) h =
+    let s = mul-score (r .score) (h .0) in
+    let t = mul-natural q rs (h .1) in
+    (s .0 * t .0, ap (λ (z : ℤ). z *ℤ over Mul q rs) (s .1) ∙ ap (λ (z : ℤ). pos (s .0) *ℤ z) (t .1), omega (arith, pow-suc 100 (length (q ∷ rs)), mul-le-mul (s .2) (t .2)))
+
+over-mag : (o : Operator) (r : Rule) (rs : List Rule) → InRange o (r ∷ rs) → mag (over o r rs) ≤ bound o (length (r ∷ rs))
+unfolding over combinedOf
+over-mag Min r [] h = score-mag Min (r .score) (h .0)
+over-mag Min r (q ∷ rs) h = two-mag smaller (r .score) (over Min q rs) 10000 (score-mag Min (r .score) (h .0)) (over-mag Min q rs (h .1))
+over-mag Max r [] h = score-mag Max (r .score) (h .0)
+over-mag Max r (q ∷ rs) h = two-mag larger (r .score) (over Max q rs) 10000 (score-mag Max (r .score) (h .0)) (over-mag Max q rs (h .1))
+over-mag Sum r [] h = omega (arith, score-mag Sum (r .score) (h .0))
+over-mag Sum r (q ∷ rs) h = omega (arith, score-mag Sum (r .score) (h .0), over-mag Sum q rs (h .1), mag-add (r .score) (over Sum q rs))
+over-mag Mul r rs h = let t = mul-natural r rs h in subst (λ (z : ℤ). mag z ≤ 100 ^ length (r ∷ rs)) (sym (t .1)) (t .2)
+
+-- as many rules as a policy may have
+abbrev pub Room : Operator → ℕ → Type 0
+Room o n = (n ≤ 16) × (o ≡ Mul → n ≤ 8)
+
+bound-small : (o : Operator) (n : ℕ) → Room o n → bound o n ≤ 10 ^ 16
+bound-small Min n h = omega arith
+bound-small Max n h = omega arith
+bound-small Sum n h = omega (arith, h .0)
+bound-small Mul n h = pow-le-pow-right {n = 100} (omega arith) (h .1 refl)
+
+pub over-small : (o : Operator) (r : Rule) (rs : List Rule) → InRange o (r ∷ rs) → Room o (length (r ∷ rs)) → mag (over o r rs) ≤ 10 ^ 16
+over-small o r rs h k = le-trans (over-mag o r rs h) (bound-small o (length (r ∷ rs)) k)

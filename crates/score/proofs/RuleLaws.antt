@@ -1,0 +1,222 @@
+-- The rules of a stored policy, one by one.
+use Prim.Native.Nat.{ℕ, suc, _-_, _^_, _≤_, _<_}
+use mathlib.Core.Bool.{Bool, true, false, cond}
+use mathlib.Core.List.{List, [], _∷_, map}
+use mathlib.Core.Option.{Option, none, some}
+use mathlib.Core.Path.{_≡_, refl, sym, ap, subst, _∙_}
+use native.Mathlib.Omega.{arith}
+use lib.IntN.{ℤ, pos, _*ℤ_}
+use lib.ListN.{length, getD, drop, length-map, length-drop, drop-of-length-le, List·getD-map}
+use lib.Seq.{drop-cons}
+use lib.Signed.{mag}
+use Rattle.arith.specs.Options.{if_then_}
+use Rattle.arith.proofs.Each.{each-get}
+use Rattle.arith.proofs.Keep.{keep-few, each-keep, each-drop}
+use Rattle.arith.proofs.Padding.{padded-get}
+use Rattle.signals.specs.Sets.{present}
+use Rattle.peal.specs.Policies.{Rule, Policy}
+use Rattle.peal.specs.Score.{scaled, presentRules, applied, scoreOf, policyScore}
+use Rattle.peal.specs.declared.Operator.{Operator}
+use Rattle.peal.specs.declared.Operator.the-variants.{Mul}
+use Rattle.book.specs.Ranges.{signalsOf, PolicyInRange}
+use Rattle.book.specs.Stored.{storedPolicy}
+use Rattle.book.specs.declared.stored.Policy.{Policy as StoredPolicy}
+use Rattle.book.proofs.RangeLaws.{rules-at-most}
+use Rattle.score.specs.PolicyScores.{PolicyKept, noRule, ruleScore, over, presentOf, withScore}
+use Rattle.score.specs.declared.policies.Present.{Present}
+use Rattle.score.proofs.PolicyLaws.{within-mag, InScore, InRange, Room, applied-mul, mul-natural, over-small, present-more}
+
+module _ (p : StoredPolicy) (q : Policy) (e : p ≡ storedPolicy q) where
+  pub count-is : p .count ≡ length (q .rules)
+  unfolding storedPolicy
+  count-is = ap (λ (x : StoredPolicy). x .count) e
+
+  pub operator-is : p .operator ≡ q .operator
+  unfolding storedPolicy
+  operator-is = ap (λ (x : StoredPolicy). x .operator) e
+
+  pub default-is : p .default ≡ q .default
+  unfolding storedPolicy
+  default-is = ap (λ (x : StoredPolicy). x .default) e
+
+  module _ (i : ℕ) (h : i < p .count) where
+    pub signal-at : getD (p .signals) i 0 ≡ getD (q .rules) i noRule .signal
+    unfolding storedPolicy noRule
+    signal-at =
+        ap (λ (x : StoredPolicy). getD (x .signals) i 0) e
+        ∙ padded-get 16 0 (signalsOf (q .rules)) i 0 (omega (arith, count-is, length-map (q .rules) (λ (r : Rule). r .signal)))
+        ∙ List·getD-map (λ (r : Rule). r .signal) (q .rules) i noRule
+
+    score-at : getD (p .scores) i (pos 0) ≡ getD (q .rules) i noRule .score
+    unfolding storedPolicy noRule
+    score-at =
+        ap (λ (x : StoredPolicy). getD (x .scores) i (pos 0)) e
+        ∙ padded-get 16 (pos 0) (map (λ (r : Rule). r .score) (q .rules)) i (pos 0) (omega (arith, count-is, length-map (q .rules) (λ (r : Rule). r .score)))
+        ∙ List·getD-map (λ (r : Rule). r .score) (q .rules) i noRule
+
+    module _ (set : ℕ) (t : Bool) (told : t ≡ present set (getD (p .signals) i 0)) where
+      here : present set (getD (q .rules) i noRule .signal) ≡ t
+      here = ap (present set) (sym signal-at) ∙ sym told
+
+      pub rule-present : t ≡ true → (v : ℤ) → v ≡ getD (p .scores) i (pos 0) → some v ≡ ruleScore set (getD (q .rules) i noRule)
+      unfolding ruleScore
+      rule-present y v k = rw (here ∙ y) (ap (λ (z : ℤ). some z) (k ∙ score-at))
+
+      pub rule-absent : t ≡ false → none ≡ ruleScore set (getD (q .rules) i noRule)
+      unfolding ruleScore
+      rule-absent n = rw (here ∙ n)
+
+-- ---- of a policy in range
+
+pub kept-count : (p : StoredPolicy) → PolicyKept p → p .count ≤ 16
+kept-count p k = omega (arith, count-is p (k .0) (k .1), rules-at-most (k .0) (k .2))
+
+pub kept-signal : (p : StoredPolicy) (i : ℕ) → PolicyKept p → i < p .count → getD (p .signals) i 0 ≤ 15
+unfolding noRule
+kept-signal p i k h =
+    let l = k .0 .rules in
+    let small = each-get (λ (s : ℕ). s < 16) (signalsOf l) i 0 (k .2 .signals) (omega (arith, count-is p (k .0) (k .1), length-map l (λ (r : Rule). r .signal))) in
+    omega (arith, signal-at p (k .0) (k .1) i h, small, List·getD-map (λ (r : Rule). r .signal) l i noRule)
+
+-- ---- the present rules from rule i on
+
+module _ (set : ℕ) (rules : List Rule) where
+  pub none-behind : (q : Policy) (i : ℕ) → length rules ≤ i → _≡_ {A = Present} (record { count = 0; value = q .default }) (presentOf q (presentRules set (drop i rules)))
+  unfolding presentRules presentOf
+  none-behind q i h = rw (drop-of-length-le rules {i = i} h)
+
+  step : (i : ℕ) → 0 < i → i ≤ length rules → drop (i - 1) rules ≡ getD rules (i - 1) noRule ∷ drop i rules
+  step i a b =
+      let e : suc (i - 1) ≡ i = omega arith in
+      drop-cons rules (i - 1) noRule (omega arith) ∙ ap (λ (n : ℕ). getD rules (i - 1) noRule ∷ drop n rules) e
+
+  present-cons : (r : Rule) (rs : List Rule) (v : ℤ) → ruleScore set r ≡ some v → (presentRules set (r ∷ rs) ≡ r ∷ presentRules set rs) × (r .score ≡ v)
+  unfolding ruleScore presentRules
+  present-cons r rs v h = go (present set (r .signal)) h
+    where
+      out : {X : Type 0} {w : ℤ} → _≡_ {A = Option ℤ} none (some w) → X
+      out k = let z : _≡_ {A = ℕ} 0 1 = cc in absurd (omega arith)
+
+      value : (x : ℤ) → Option ℤ → ℤ
+      value x none = x
+      value x (some y) = y
+
+      go : (t : Bool) → (if t then some (r .score)) ≡ some v → (cond t (r ∷ presentRules set rs) (presentRules set rs) ≡ r ∷ presentRules set rs) × (r .score ≡ v)
+      go true k = (refl, ap (value v) k)
+      go false k = out k
+
+  absent-cons : (r : Rule) (rs : List Rule) → ruleScore set r ≡ none → presentRules set (r ∷ rs) ≡ presentRules set rs
+  unfolding ruleScore presentRules
+  absent-cons r rs h = go (present set (r .signal)) h
+    where
+      out : {X : Type 0} {w : ℤ} → _≡_ {A = Option ℤ} (some w) none → X
+      out k = let z : _≡_ {A = ℕ} 0 1 = cc in absurd (omega arith)
+
+      go : (t : Bool) → (if t then some (r .score)) ≡ none → cond t (r ∷ presentRules set rs) (presentRules set rs) ≡ presentRules set rs
+      go true k = out k
+      go false k = refl
+
+  module _ (q : Policy) (i : ℕ) (some-left : 0 < i) (inside : i ≤ length rules) where
+    -- rule i - 1 is present with score v
+    module _ (v : ℤ) (h : ruleScore set (getD rules (i - 1) noRule) ≡ some v) where
+      rule-counted : withScore (q .operator) (presentOf q (presentRules set (drop i rules))) v ≡ presentOf q (presentRules set (drop (i - 1) rules))
+      rule-counted =
+          let r = getD rules (i - 1) noRule in
+          let c = present-cons r (drop i rules) v h in
+          ap (withScore (q .operator) (presentOf q (presentRules set (drop i rules)))) (sym (c .1))
+          ∙ present-more q r (presentRules set (drop i rules))
+          ∙ ap (presentOf q) (sym (ap (presentRules set) (step i some-left inside) ∙ c .0))
+
+    -- rule i - 1 is absent
+    rule-not-counted : ruleScore set (getD rules (i - 1) noRule) ≡ none → presentOf q (presentRules set (drop i rules)) ≡ presentOf q (presentRules set (drop (i - 1) rules))
+    rule-not-counted h =
+        ap (presentOf q) (sym (ap (presentRules set) (step i some-left inside) ∙ absent-cons (getD rules (i - 1) noRule) (drop i rules) h))
+
+-- ---- sizes
+
+value-small : (q : Policy) (rules : List Rule) → mag (q .default) ≤ 10000 → InRange (q .operator) rules → Room (q .operator) (length rules) → mag (presentOf q rules .value) ≤ 10 ^ 16
+unfolding presentOf
+value-small q [] d h k = omega arith
+value-small q (r ∷ rs) d h k = over-small (q .operator) r rs h k
+
+count-of : (q : Policy) (rules : List Rule) → presentOf q rules .count ≡ length rules
+unfolding presentOf
+count-of q [] = refl
+count-of q (r ∷ rs) = refl
+
+module _ (set : ℕ) (q : Policy) (r : PolicyInRange q) (i : ℕ) where
+  fewer : length (presentRules set (drop i (q .rules))) ≤ length (q .rules) - i
+  unfolding presentRules
+  fewer = omega (arith, keep-few (λ (x : Rule). present set (x .signal)) (drop i (q .rules)), length-drop i (q .rules))
+
+  pub present-value-small : mag (presentOf q (presentRules set (drop i (q .rules))) .value) ≤ 10 ^ 16
+  unfolding presentRules
+  present-value-small =
+      value-small q (presentRules set (drop i (q .rules))) (within-mag 10000 10000 (q .default) (r .default) 10000 (omega arith) (omega arith))
+      (each-keep (λ (x : Rule). present set (x .signal)) (InScore (q .operator)) (drop i (q .rules)) (each-drop (InScore (q .operator)) i (q .rules) (r .scores)))
+      (omega (arith, fewer, rules-at-most q r), λ m. omega (arith, fewer, r .room m))
+
+  pub present-count-small : 0 < i → presentOf q (presentRules set (drop i (q .rules))) .count < 16
+  present-count-small h = omega (arith, count-of q (presentRules set (drop i (q .rules))), fewer, rules-at-most q r)
+
+-- ---- one turn, from rule i to rule i - 1
+
+module _ (p : StoredPolicy) (q : Policy) (e : p ≡ storedPolicy q) (set i : ℕ) (some-left : 0 < i) (inside : i ≤ p .count) (so : Present)
+    (before : so ≡ presentOf q (presentRules set (drop i (q .rules)))) where
+  pub turn-present : (v : ℤ) → some v ≡ ruleScore set (getD (q .rules) (i - 1) noRule)
+      → withScore (p .operator) so v ≡ presentOf q (presentRules set (drop (i - 1) (q .rules)))
+  turn-present v h =
+      ap (λ (o : Operator). withScore o so v) (operator-is p q e) ∙ ap (λ (x : Present). withScore (q .operator) x v) before
+      ∙ rule-counted set (q .rules) q i some-left (omega (arith, count-is p q e)) v (sym h)
+
+  pub turn-absent : none ≡ ruleScore set (getD (q .rules) (i - 1) noRule) → so ≡ presentOf q (presentRules set (drop (i - 1) (q .rules)))
+  turn-absent h = before ∙ rule-not-counted set (q .rules) q i some-left (omega (arith, count-is p q e)) (sym h)
+
+-- ---- the score, from the present rules
+
+module _ (set : ℕ) (q : Policy) (so : Present) (told : so ≡ presentOf q (presentRules set (q .rules))) where
+  pub none-present : so .count ≡ 0 → scaled (so .value) ≡ policyScore set q
+  unfolding policyScore scoreOf presentOf
+  none-present z =
+      subst (λ (x : Present). scaled (x .value) ≡ policyScore set q) (sym told)
+      (go (presentRules set (q .rules)) (sym (ap (λ (x : Present). x .count) told ∙ count-of q (presentRules set (q .rules))) ∙ z))
+    where
+      go : (rs : List Rule) → length rs ≡ 0 → scaled (presentOf q rs .value) ≡ scoreOf q rs
+      go [] h = refl
+      go (r ∷ rs) h = absurd (omega arith)
+
+  -- some rule is present
+  module _ (some-present : so .count ≡ 0 → ⊥) where
+    by-rules : (P : Present → ℤ → Type 0) → ((r : Rule) (rs : List Rule) → presentRules set (q .rules) ≡ r ∷ rs → P (presentOf q (r ∷ rs)) (applied (q .operator) r rs)) → P so (policyScore set q)
+    unfolding policyScore scoreOf presentOf
+    by-rules P f = subst (λ (x : Present). P x (policyScore set q)) (sym told) (go (presentRules set (q .rules)) refl)
+      where
+        go : (rs : List Rule) → presentRules set (q .rules) ≡ rs → P (presentOf q rs) (scoreOf q rs)
+        go [] h = absurd (some-present (ap (λ (x : Present). x .count) told ∙ ap (λ (l : List Rule). presentOf q l .count) h))
+        go (r ∷ rs) h = f r rs h
+
+    -- min, max and sum
+    pub whole-score : (o : Operator) → q .operator ≡ o → ((r : Rule) (rs : List Rule) → scaled (over o r rs) ≡ applied o r rs) → scaled (so .value) ≡ policyScore set q
+    unfolding presentOf
+    whole-score o e f =
+        by-rules (λ (x : Present) (z : ℤ). scaled (x .value) ≡ z)
+        (λ r rs h. subst (λ (p : Operator). scaled (over p r rs) ≡ applied p r rs) (sym e) (f r rs))
+
+    pub product-score : q .operator ≡ Mul → so .value *ℤ pos (100 ^ (8 - so .count)) ≡ policyScore set q
+    unfolding presentOf
+    product-score e =
+        by-rules (λ (x : Present) (z : ℤ). x .value *ℤ pos (100 ^ (8 - x .count)) ≡ z)
+        (λ r rs h. subst (λ (p : Operator). over p r rs *ℤ pos (100 ^ (8 - length (r ∷ rs))) ≡ applied p r rs) (sym e) (applied-mul r rs))
+
+    pub product-natural : PolicyInRange q → q .operator ≡ Mul → (n : ℕ) × (so .value ≡ pos n) × (n ≤ 100 ^ so .count)
+    unfolding presentOf presentRules
+    product-natural k e =
+        by-rules (λ (x : Present) (z : ℤ). (n : ℕ) × (x .value ≡ pos n) × (n ≤ 100 ^ x .count))
+        (λ r rs h.
+        subst (λ (p : Operator). InRange p (r ∷ rs) → (n : ℕ) × (over p r rs ≡ pos n) × (n ≤ 100 ^ length (r ∷ rs))) (sym e) (mul-natural r rs)
+        (subst (InRange (q .operator)) h (each-keep (λ (x : Rule). present set (x .signal)) (InScore (q .operator)) (q .rules) (k .scores))))
+
+  pub product-few : PolicyInRange q → q .operator ≡ Mul → so .count ≤ 8
+  unfolding presentRules
+  product-few k e =
+      omega (arith, ap (λ (x : Present). x .count) told, count-of q (presentRules set (q .rules)), keep-few (λ (x : Rule). present set (x .signal)) (q .rules), k .room e)

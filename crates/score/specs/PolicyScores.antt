@@ -1,0 +1,60 @@
+-- The score of a policy as the code makes it: its rules one by one.
+use Prim.Native.Nat.{ℕ, zero, suc}
+use mathlib.Core.List.{List, [], _∷_}
+use mathlib.Core.Option.{Option, none, some}
+use mathlib.Core.Path.{_≡_}
+use lib.IntN.{ℤ, pos, _+ℤ_, _*ℤ_}
+use lib.ListN.{length}
+use Rattle.arith.specs.Options.{if_then_}
+use Rattle.signals.specs.Sets.{present}
+use Rattle.peal.specs.Policies.{Rule, Policy, smaller, larger}
+use Rattle.peal.specs.Score.{ofTwo}
+use Rattle.peal.specs.declared.Operator.{Operator}
+use Rattle.peal.specs.declared.Operator.the-variants.{Min, Max, Sum, Mul}
+use Rattle.book.specs.Ranges.{PolicyInRange}
+use Rattle.book.specs.Stored.{storedPolicy}
+use Rattle.book.specs.declared.stored.Policy.{Policy as StoredPolicy}
+use Rattle.score.specs.declared.policies.Scored.{Scored}
+use Rattle.score.specs.declared.policies.Scored.the-variants.{Present as Counted, Absent}
+use Rattle.score.specs.declared.policies.Present.{Present}
+
+-- the stored policy is that of one in range
+abbrev pub PolicyKept : StoredPolicy → Type 0
+PolicyKept p = (q : Policy) × (p ≡ storedPolicy q) × PolicyInRange q
+
+-- stands in for a rule that is not there
+unfoldable pub noRule : Rule
+noRule = record { signal = 0; score = pos 0 }
+
+-- what a rule adds on a signal set
+unfoldable pub ruleScore : ℕ → Rule → Option ℤ
+ruleScore set r = if present set (r .signal) then some (r .score)
+
+abbrev pub scoredMeaning : Scored → Option ℤ
+scoredMeaning (Counted v) = some v
+scoredMeaning Absent = none
+
+-- the operator over two scores; in mul the bare product
+unfoldable pub combinedOf : Operator → ℤ → ℤ → ℤ
+combinedOf Min v w = ofTwo smaller v w
+combinedOf Max v w = ofTwo larger v w
+combinedOf Sum v w = v +ℤ w
+combinedOf Mul v w = v *ℤ w
+
+-- the operator over the scores of a rule and more
+unfoldable pub over : Operator → Rule → List Rule → ℤ
+over o r [] = r .score
+over o r (q ∷ rs) = combinedOf o (r .score) (over o q rs)
+
+-- how many of a policy's rules there are, and the operator over their scores; with none, the default
+unfoldable pub presentOf : Policy → List Rule → Present
+presentOf p [] = record { count = 0; value = p .default }
+presentOf p (r ∷ rs) = record { count = length (r ∷ rs); value = over (p .operator) r rs }
+
+-- the operator over the scores of n rules, with one score more
+unfoldable pub valueWith : Operator → ℕ → ℤ → ℤ → ℤ
+valueWith o zero w v = v
+valueWith o (suc n) w v = combinedOf o v w
+
+unfoldable pub withScore : Operator → Present → ℤ → Present
+withScore o so v = record { count = suc (so .count); value = valueWith o (so .count) (so .value) v }
