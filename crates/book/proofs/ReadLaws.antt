@@ -32,7 +32,7 @@ use Rattle.book.proofs.TextLaws.{end-within, piece-length, ended-line, 
 
 -- ---- a taken line, by its verdict
 
-not-fine : {X : Type 0} {v : Verdict} {r : Reason} → v ≡ Fine → v ≡ Refused r → X
+pub not-fine : {X : Type 0} {v : Verdict} {r : Reason} → v ≡ Fine → v ≡ Refused r → X
 not-fine h g = let z : _≡_ {A = ℕ} 0 1 = cc in absurd (omega arith)
 
 pub line-refused : (n : ℕ) (a : Answer BookSoFar) (t : Taken) (r : Reason) → t .verdict ≡ Refused r → TakenAs n a t → a ≡ refused (reasonNumber r) n
@@ -43,6 +43,15 @@ pub line-fine : (n : ℕ) (a : Answer BookSoFar) (t : Taken) → t .verdict ≡ 
     → (so : BookSoFar) × (t .so ≡ storedSoFar so) × Bounded so × (a ≡ result so)
 line-fine n (result so) t e h = (so, h .1, h .2, refl)
 line-fine n (refused k v) t e h = no-refusal (sym (ap (λ (w : Verdict). verdictMeaning n w noLine) e) ∙ h)
+
+-- the reason of a refused line is the one that is passed up
+abbrev reason-of : Reason → Verdict → Reason
+reason-of k Fine = k
+reason-of k (Refused r) = r
+
+pub same-refusal : (j k : Reason) (n : ℕ) (r : BookRead) → Refused j ≡ Refused k
+    → (r .answer ≡ Turned (record { reason = j; line = n })) × (r .book ≡ storedBook emptyBook) → (r .answer ≡ Turned (record { reason = k; line = n })) × (r .book ≡ storedBook emptyBook)
+same-refusal j k n r e h = (h .0 ∙ ap (λ (v : Verdict). Turned (record { reason = reason-of j v; line = n })) e, h .1)
 
 -- ---- the lines one by one
 

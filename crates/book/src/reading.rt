@@ -13,6 +13,7 @@ ghost use Rattle.book.specs.Acceptance.{emptyBook};
 ghost use Rattle.book.specs.Books.{checked, read as readBook};
 ghost use Rattle.book.specs.Stored.{storedBook};
 ghost use Rattle.book.specs.Meaning.{checkedMeaning, bookOrEmpty};
+ghost use Rattle.book.specs.declared.Reason.{Reason as BookReason};
 ghost use Rattle.book.specs.declared.Checked.the-variants.{Accepted, Refused};
 
 // What a check of the book tells, and the book: the empty one where it is refused.
@@ -31,6 +32,16 @@ fn refused(reason: Reason, line: usize) -> BookRead
             line: line,
         }),
         book: b,
+    }
+}
+
+// The refusal of a line. A fine line has none; this is not called with one.
+fn passed_up(v: Verdict, line: usize) -> BookRead
+    ensures { λ r. ⌜ ((k : BookReason) → v ≡ Verdict.Refused k → (r .answer ≡ Refused (record { reason = k; line = line })) × (r .book ≡ storedBook emptyBook)) ⌝ }
+{
+    match v {
+        Verdict::Refused(reason) => refused(reason, line),
+        Verdict::Fine => refused(Reason::NoForm, line),
     }
 }
 
@@ -72,9 +83,9 @@ pub fn read(bytes: &[u8]) -> BookRead
         }
         let t = take_line(s, &bytes[at..end]);
         let v = t.verdict;
-        if let Verdict::Refused(reason) = v {
-            return refused(reason, line);
-        }
+        let Verdict::Fine = v else {
+            return passed_up(v, line);
+        };
         s = t.so;
         at = end + 1;
         line += 1;

@@ -86,27 +86,27 @@ take-line-requires c κs =
     let q = c .before .before .before .next-byte .ensures in
     ((g .so, g .held, g .bounded), omega (arith, piece-length 10 s (l .loop .at) _ (omega arith) q, c .before .before .if2 .left))
 
-enum-known-v : tie.Need-enum-known-v Inv-loop μ-loop
-enum-known-v c = search needs
+enum-told : tie.Need-enum-told Inv-loop μ-loop
+enum-told c = search needs
 
-refused-requires-4 : tie.Need-refused-requires-4 Inv-loop μ-loop
-refused-requires-4 c κs = search needs
+enum-told-2 : tie.Need-enum-told-2 Inv-loop μ-loop
+enum-told-2 c = search needs
+
+passed-up-requires : tie.Need-passed-up-requires Inv-loop μ-loop
+passed-up-requires c κs = search needs
 
 returns-4 : tie.Need-returns-4 Inv-loop μ-loop
 returns-4 c =
-    let l = c .before .before .before .before .before .before .before .before .before .before in
+    let l = c .before .before .before .before .before .before .before .before .before in
     let s = now (l .before .before .before .before .args .bytes) in
     let g = l .loop .inv .2 in
-    let h = c .before .before .before .before .before .before .before .before .before .loop-test .taken in
-    let q = c .before .before .before .before .before .before .before .before .next-byte .ensures in
-    let t = c .before .before .before .before .take-line in
-    let r = c .before .before .v .given in
+    let h = c .before .before .before .before .before .before .before .before .loop-test .taken in
+    let q = c .before .before .before .before .before .before .before .next-byte .ensures in
+    let t = c .before .before .before .take-line in
+    let r = c .before .enum-told2 .given in
     tells-refusal s (r .0 .0) (l .loop .line) _
-    (sym (g .same) ∙ read-refused s (l .loop .at) _ (l .loop .line) h q (g .so) (c .before .before .before .before .before .before .before .if2 .left) (c .before .before .before .before .before .before .if3 .left) (t .result) (r .0 .0) (r .1) (t .ensures (l .loop .line) (g .so) (g .held) (g .bounded)))
-    (c .refused4 .ensures)
-
-enum-told : tie.Need-enum-told Inv-loop μ-loop
-enum-told c = search needs
+    (sym (g .same) ∙ read-refused s (l .loop .at) _ (l .loop .line) h q (g .so) (c .before .before .before .before .before .before .if2 .left) (c .before .before .before .before .before .if3 .left) (t .result) (r .0 .0) (r .1) (t .ensures (l .loop .line) (g .so) (g .held) (g .bounded)))
+    (c .passed-up .ensures (r .0 .0) (r .1))
 
 add-at : tie.Need-add-at Inv-loop μ-loop
 add-at c =
@@ -176,10 +176,10 @@ read-spec =
     part-take-line-start
     part-take-line-end
     take-line-requires
-    enum-known-v
-    refused-requires-4
-    returns-4
     enum-told
+    enum-told-2
+    passed-up-requires
+    returns-4
     add-at
     add-line
     loop-less
