@@ -7,13 +7,13 @@ use native.Mathlib.Omega.{arith}
 use lib.Dec.{eqb}
 use lib.ListN.{length}
 use borrow.Author.Tests.{eqb-true, eqb-false, ne-eqb}
-use Rattle.arith.specs.Lists.{isIn, AllBelow, Distinct}
+use Rattle.arith.specs.Lists.{Each, isIn, AllBelow, Distinct}
 
 unfoldable without : ℕ → List ℕ → List ℕ
 without x [] = []
 without x (y ∷ l) = cond (eqb y x) (without x l) (y ∷ without x l)
 
-neither : (a b : Bool) → a || b ≡ false → (a ≡ false) × (b ≡ false)
+pub neither : (a b : Bool) → a || b ≡ false → (a ≡ false) × (b ≡ false)
 neither true b h = let z : _≡_ {A = ℕ} 0 1 = cc in absurd (omega arith)
 neither false b h = (refl, h)
 
@@ -67,6 +67,10 @@ at-most zero (x ∷ l) b a = absurd (let h = b .0 in omega arith)
 at-most (suc n) l b a =
     let i = at-most n (without n l) (below-less n l b) (still-distinct n l a) in
     omega (arith, one-less n l a)
+
+pub absent-each : (x : ℕ) (l : List ℕ) → isIn x l ≡ false → Each (λ (y : ℕ). x ≡ y → ⊥) l
+absent-each x [] h = tt
+absent-each x (y ∷ l) h = let q = neither (eqb y x) (isIn x l) h in (λ e. eqb-false y x (q .0) (sym e), absent-each x l (q .1))
 
 -- one more that is new
 absent-more : (x y : ℕ) (m : List ℕ) → eqb x y ≡ false → isIn y m ≡ false → isIn y (m ++ (x ∷ [])) ≡ false

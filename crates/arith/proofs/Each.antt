@@ -1,7 +1,7 @@
 -- Laws of a property that each member has.
 use Prim.Native.Nat.{ℕ, zero, suc, _<_}
-use mathlib.Core.List.{List, [], _∷_, _++_}
-use mathlib.Core.Path.{_≡_}
+use mathlib.Core.List.{List, [], _∷_, _++_, map}
+use mathlib.Core.Path.{_≡_, refl, ap₂}
 use native.Mathlib.Omega.{arith}
 use lib.ListN.{length, getD, set}
 use Rattle.arith.specs.Lists.{Each}
@@ -16,6 +16,11 @@ module _ {A : Type 0} (P : A → Type 0) where
   each-get (x ∷ xs) zero d e h = e .0
   each-get (x ∷ xs) (suc i) d e h = each-get xs i d (e .1) (omega arith)
 
+  pub each-default : (xs : List A) (i : ℕ) (d : A) → Each P xs → P d → P (getD xs i d)
+  each-default [] i d e p = p
+  each-default (x ∷ xs) zero d e p = e .0
+  each-default (x ∷ xs) (suc i) d e p = each-default xs i d (e .1) p
+
   pub each-more : (xs : List A) (x : A) → Each P xs → P x → Each P (xs ++ (x ∷ []))
   each-more [] x e p = (p, tt)
   each-more (y ∷ xs) x e p = (e .0, each-more xs x (e .1) p)
@@ -24,3 +29,12 @@ module _ {A : Type 0} (P : A → Type 0) where
   each-set [] i x e p = tt
   each-set (y ∷ xs) zero x e p = (p, e .1)
   each-set (y ∷ xs) (suc i) x e p = (e .0, each-set xs i x (e .1) p)
+
+module _ {A B : Type 0} (P : B → Type 0) (f : A → B) where
+  pub each-map : (xs : List A) → Each P (map f xs) → Each (λ (x : A). P (f x)) xs
+  each-map [] h = tt
+  each-map (x ∷ xs) h = (h .0, each-map xs (h .1))
+
+pub map-same : {A B : Type 0} (f g : A → B) (xs : List A) → Each (λ (x : A). f x ≡ g x) xs → map f xs ≡ map g xs
+map-same f g [] h = refl
+map-same {B = B} f g (x ∷ xs) h = ap₂ {B = List B} (λ y l. y ∷ l) (h .0) (map-same f g xs (h .1))

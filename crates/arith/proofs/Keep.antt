@@ -1,7 +1,8 @@
 -- Laws of the members that pass a test, and of those from a place on.
 use Prim.Native.Nat.{ℕ, zero, suc, _≤_}
 use mathlib.Core.Bool.{Bool, true, false, cond}
-use mathlib.Core.List.{List, [], _∷_}
+use mathlib.Core.List.{List, [], _∷_, _++_}
+use mathlib.Core.Path.{_≡_, refl, ap}
 use native.Mathlib.Omega.{arith}
 use lib.ListN.{length, drop}
 use Rattle.arith.specs.Lists.{keep, Each}
@@ -22,6 +23,18 @@ module _ {A : Type 0} (test : A → Bool) where
       go : (t : Bool) → Each P (keep test xs) → Each P (cond t (x ∷ keep test xs) (keep test xs))
       go true i = (h .0, i)
       go false i = i
+
+  pub keep-all : (xs : List A) → Each (λ (x : A). test x ≡ true) xs → keep test xs ≡ xs
+  keep-all [] h = refl
+  keep-all (x ∷ xs) h = rw (h .0) (ap {B = List A} (λ l. x ∷ l) (keep-all xs (h .1)))
+
+  pub keep-append : (xs ys : List A) → keep test (xs ++ ys) ≡ keep test xs ++ keep test ys
+  keep-append [] ys = refl
+  keep-append (x ∷ xs) ys = rw (keep-append xs ys) (go (test x))
+    where
+      go : (t : Bool) → cond t (x ∷ (keep test xs ++ keep test ys)) (keep test xs ++ keep test ys) ≡ cond t (x ∷ keep test xs) (keep test xs) ++ keep test ys
+      go true = refl
+      go false = refl
 
 pub each-drop : {A : Type 0} (P : A → Type 0) (i : ℕ) (xs : List A) → Each P xs → Each P (drop i xs)
 each-drop P zero xs h = h

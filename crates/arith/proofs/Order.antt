@@ -8,7 +8,7 @@ use native.Mathlib.Omega.{arith}
 use lib.Dec.{leb, ltb}
 use lib.IntN.{ℤ, pos, negsuc, negℤ, _+ℤ_, _*ℤ_}
 use lib.Signed.{leZ, ltZ}
-use borrow.Author.Tests.{leb-true, leb-false, ltb-true, ltb-false, le-leb, lt-ltb, le-ltb}
+use borrow.Author.Tests.{not-false, leb-true, leb-false, ltb-true, ltb-false, le-leb, lt-ltb, le-ltb}
 use Rattle.arith.proofs.Tests.{clash, same-answer}
 
 pub le-or-lt : (a b : ℕ) → (a ≤ b) ⊎ (b < a)
@@ -79,6 +79,9 @@ ltZ-leZ a b h = le-leZ a b (omega (arith, ltZ-lt a b h))
 pub ltZ-leZ-trans : (a b c : ℤ) → ltZ a b ≡ true → leZ b c ≡ true → ltZ a c ≡ true
 ltZ-leZ-trans a b c h k = lt-ltZ a c (omega (arith, ltZ-lt a b h, leZ-le b c k))
 
+pub not-less : (a b : ℤ) → ltZ a b ≡ false → leZ b a ≡ true
+not-less a b h = not-false (leZ b a) (sym (ltZ-not a b) ∙ h)
+
 pub leZ-total : (a b : ℤ) → leZ a b ≡ false → leZ b a ≡ true
 leZ-total a b h = ltZ-leZ b a (ltZ-not b a ∙ ap not h)
 
@@ -100,11 +103,15 @@ pub under-scale : (a : ℤ) (n : ℕ) → under (a *ℤ pos n) ≡ under a * n
 under-scale (pos a) n = sym (zero-mul n)
 under-scale (negsuc a) n = under-neg (suc a * n)
 
+pub leZ-times : (a b : ℤ) (n : ℕ) → leZ a b ≡ true → leZ (a *ℤ pos n) (b *ℤ pos n) ≡ true
+leZ-times a b n h =
+    le-leZ (a *ℤ pos n) (b *ℤ pos n) (omega (arith, mul-le-mul-right n (leZ-le a b h), above-scale a n, under-scale a n, above-scale b n, under-scale b n))
+
 pub leZ-scale : (a b : ℤ) (n : ℕ) → 0 < n → leZ (a *ℤ pos n) (b *ℤ pos n) ≡ leZ a b
 leZ-scale a b n k =
     same-answer (leZ (a *ℤ pos n) (b *ℤ pos n)) (leZ a b)
     (λ h. le-leZ a b (le-of-mul-le-mul-right {k = n} (omega (arith, leZ-le (a *ℤ pos n) (b *ℤ pos n) h, above-scale a n, under-scale a n, above-scale b n, under-scale b n)) k))
-    (λ h. le-leZ (a *ℤ pos n) (b *ℤ pos n) (omega (arith, mul-le-mul-right n (leZ-le a b h), above-scale a n, under-scale a n, above-scale b n, under-scale b n)))
+    (leZ-times a b n)
 
 pub ltZ-scale : (a b : ℤ) (n : ℕ) → 0 < n → ltZ (a *ℤ pos n) (b *ℤ pos n) ≡ ltZ a b
 ltZ-scale a b n k = rw (ltZ-not (a *ℤ pos n) (b *ℤ pos n), leZ-scale b a n k) (sym (ltZ-not a b))
@@ -127,3 +134,13 @@ sum-parts (negsuc x) r = go (ltb r (suc x)) refl
         → above (cond t (negsuc (suc x - suc r)) (pos (r - suc x))) + suc x ≡ 0 + r + under (cond t (negsuc (suc x - suc r)) (pos (r - suc x)))
     go true e = omega (arith, ltb-true r (suc x) e)
     go false e = omega (arith, ltb-false r (suc x) e)
+
+-- ---- the order of sums
+
+add-parts : (x y : ℤ) → above (x +ℤ y) + under x + under y ≡ above x + above y + under (x +ℤ y)
+add-parts x (pos r) = omega (arith, sum-parts x r)
+add-parts (pos x) (negsuc r) = omega (arith, sum-parts (negsuc r) x)
+add-parts (negsuc x) (negsuc r) = omega arith
+
+pub leZ-plus : (a b c : ℤ) → leZ a b ≡ true → leZ (a +ℤ c) (b +ℤ c) ≡ true
+leZ-plus a b c h = le-leZ (a +ℤ c) (b +ℤ c) (omega (arith, leZ-le a b h, add-parts a c, add-parts b c))

@@ -1,6 +1,7 @@
 -- Laws of tests: Boolean answers, and tests over lists.
 use Prim.Native.Nat.{ℕ, zero, suc}
 use mathlib.Core.Bool.{Bool, true, false, not, _&&_, _||_, true≢false}
+use mathlib.Core.Logic.{_⊎_, inl, inr}
 use mathlib.Core.Path.{_≡_, refl, sym, ap, _∙_}
 use Rattle.arith.specs.Lists.{every, any, below}
 
@@ -13,6 +14,11 @@ pub same-answer : (a b : Bool) → (a ≡ true → b ≡ true) → (b ≡ true �
 same-answer true b f g = sym (f refl)
 same-answer false true f g = g refl
 same-answer false false f g = refl
+
+-- an answer that is not yes is no
+pub not-yes : (a : Bool) → (a ≡ true → ⊥) → a ≡ false
+not-yes true f = absurd (f refl)
+not-yes false f = refl
 
 pub and-left : (a b : Bool) → (a && b) ≡ true → a ≡ true
 and-left true b h = refl
@@ -27,6 +33,18 @@ and-swap true b c = refl
 and-swap false true c = refl
 and-swap false false c = refl
 
+pub or-right : (a b : Bool) → b ≡ true → (a || b) ≡ true
+or-right true b h = refl
+or-right false b h = h
+
+pub or-then : (a b c : Bool) → (a ≡ true → b ≡ true) → (a || c) ≡ true → (b || c) ≡ true
+or-then true b c f h = rw (f refl)
+or-then false b c f h = or-right b c h
+
+pub or-cases : (a b : Bool) → (a || b) ≡ true → (a ≡ true) ⊎ (b ≡ true)
+or-cases true b h = inl refl
+or-cases false b h = inr h
+
 pub or-swap : (a b c : Bool) → (a || (b || c)) ≡ (b || (a || c))
 or-swap false b c = refl
 or-swap true true c = refl
@@ -35,6 +53,20 @@ or-swap true false c = refl
 pub not-and : (a b : Bool) → not (a && b) ≡ (not a || not b)
 not-and true b = refl
 not-and false b = refl
+
+pub not-or : (a b : Bool) → not (a || b) ≡ (not a && not b)
+not-or true b = refl
+not-or false b = refl
+
+-- one of two answers, where it follows from the other
+pub or-first : (a b : Bool) → (b ≡ true → a ≡ true) → (a || b) ≡ a
+or-first true b f = refl
+or-first false true f = sym (f refl)
+or-first false false f = refl
+
+pub or-second : (a b : Bool) → (a ≡ true → b ≡ true) → (a || b) ≡ b
+or-second true b f = sym (f refl)
+or-second false b f = refl
 
 -- the lowest number first
 pub every-low : (n : ℕ) (test : ℕ → Bool) → every test (below (suc n)) ≡ (test zero && every (λ s. test (suc s)) (below n))
@@ -46,8 +78,3 @@ pub any-low : (n : ℕ) (test : ℕ → Bool) → any test (below (suc n)) ≡ (
 any-low zero test = refl
 any-low (suc n) test =
     ap (λ (b : Bool). test (suc n) || b) (any-low n test) ∙ or-swap (test (suc n)) (test zero) (any (λ s. test (suc s)) (below n))
-
--- equal tests have equal answers
-pub any-alike : (n : ℕ) (p q : ℕ → Bool) → ((s : ℕ) → p s ≡ q s) → any p (below n) ≡ any q (below n)
-any-alike zero p q h = refl
-any-alike (suc n) p q h = rw (h n, any-alike n p q h)

@@ -12,8 +12,9 @@ use lib.ListN.{length, getD, take, drop, drop-of-length-le, length-map}
 use lib.Seq.{length-take-le, drop-cons, getD-take}
 use borrow.Author.Tests.{eq-eqb, ne-eqb, lt-ltb, le-ltb, ltb-true, ltb-false, le-leb, lt-leb}
 use Rattle.answers.specs.Answers.{result, refused}
-use Rattle.arith.specs.Lists.{every, any, padded, isIn}
+use Rattle.arith.specs.Lists.{every, any, padded}
 use Rattle.arith.specs.Trees.{leaf, join, joining, treeValue}
+use Rattle.arith.proofs.AnyEvery.{any-map}
 use Rattle.peal.specs.Policies.{Rule, Policy, MinMax, smaller, larger, Expression}
 use Rattle.peal.specs.declared.Operator.{Operator}
 use Rattle.peal.specs.declared.Sense.{Sense}
@@ -175,10 +176,6 @@ module _ (l : List ℕ) (n i : ℕ) (room : n ≤ length l) where
 
 -- ---- what the cells hold
 
-pub any-map : (s : ℕ) (rules : List Rule) → isIn s (signalsOf rules) ≡ any (λ (r : Rule). eqb (r .signal) s) rules
-any-map s [] = refl
-any-map s (r ∷ rules) = rw (any-map s rules)
-
 pub signal-cells : (p : StoredPolicy) (s : ℕ) (q : Policy) → p ≡ storedPolicy q → any (λ y. eqb y s) (take (p .count) (p .signals)) ≡ any (λ (r : Rule). eqb (r .signal) s) (q .rules)
 unfolding storedPolicy
 signal-cells p s q e =
@@ -186,7 +183,7 @@ signal-cells p s q e =
     ap (λ (x : StoredPolicy). any (λ y. eqb y s) (take (x .count) (x .signals))) e
     ∙ ap (λ (k : ℕ). any (λ y. eqb y s) (take k (padded 16 0 signals))) (sym (length-map (q .rules) (λ (r : Rule). r .signal)))
     ∙ ap (any (λ y. eqb y s)) (take-padded 16 0 signals)
-    ∙ any-map s (q .rules)
+    ∙ any-map (λ (r : Rule). r .signal) (λ y. eqb y s) (q .rules)
 
 every-append : (x : ℕ) (a b : List ℕ) → every (λ y. ltb y x) (a ++ b) ≡ (every (λ y. ltb y x) a && every (λ y. ltb y x) b)
 every-append x [] b = refl

@@ -12,8 +12,10 @@ use borrow.Author.Tests.{leb-true, ltb-true, eqb-true, not-true}
 use Rattle.answers.specs.Answers.{result}
 use Rattle.answers.proofs.Results.{no-refusal, result-is, required, gone-on}
 use Rattle.arith.specs.Lists.{any, AllBelow, Distinct}
+use Rattle.arith.proofs.AnyEvery.{any-map}
 use Rattle.arith.proofs.Distinct.{at-most, distinct-more}
 use Rattle.arith.proofs.Each.{each-none, each-get, each-more, each-set}
+use Rattle.arith.proofs.Options.{Finds}
 use Rattle.arith.proofs.Tests.{and-left, and-right, clash}
 use Rattle.peal.specs.Policies.{Rule, Policy, Condition, Book, policyAt}
 use Rattle.peal.specs.declared.Operator.{Operator}
@@ -22,10 +24,11 @@ use Rattle.book.specs.Text.{Line, textLines}
 use Rattle.book.specs.Forms.{Form, policy, rule, condition, form}
 use Rattle.book.specs.Acceptance.{BookSoFar, noLine, emptyBook, lastPolicy, inPlace, inCount, roomForRule, within, defaultInRange, scoreInRange, mentionsBelow, inRange, isNew, defaultOf, withRule, withPolicies, withLast, withCondition, bookWith, opensRules, accept}
 use Rattle.book.specs.Books.{acceptForm, readLine, readLines, read}
-use Rattle.book.specs.Ranges.{signalsOf, PolicyInRange, ConditionInRange, BookInRange}
+use Rattle.book.specs.Ranges.{signalsOf, mentionCount, PolicyInRange, ConditionInRange, BookInRange}
 use Rattle.book.specs.Judged.{after}
 use Rattle.book.specs.Taken.{Bounded}
-use Rattle.book.proofs.JudgeLaws.{accept-fine, any-map}
+use Rattle.book.proofs.FormMentions.{FewMentions, form-mentions}
+use Rattle.book.proofs.JudgeLaws.{accept-fine}
 
 -- ---- what an accepted line has passed
 
@@ -68,16 +71,17 @@ module _ (p : Policy) (h : PolicyInRange p) where
       record {
         default = h .default;
         signals = subst (AllBelow 16) (sym more) (each-more (λ (x : ℕ). x < 16) (signalsOf (p .rules)) (r .signal) (h .signals) small);
-        distinct = subst Distinct (sym more) (distinct-more (signalsOf (p .rules)) (r .signal) (h .distinct) (any-map (r .signal) (p .rules) ∙ new));
+        distinct = subst Distinct (sym more) (distinct-more (signalsOf (p .rules)) (r .signal) (h .distinct) (any-map (λ (x : Rule). x .signal) (λ y. eqb y (r .signal)) (p .rules) ∙ new));
         scores = each-more (λ (x : Rule). scoreInRange (p .operator) (x .score) ≡ true) (p .rules) r (h .scores) score;
         room = λ e. omega (arith, length-append (p .rules) (r ∷ []), room-in-mul (p .operator) (p .rules) room e);
       }
 
-condition-in-range : (n : ℕ) (c : Condition) → (within (negℤ (pos 200000)) (pos 200000) (c .threshold) && mentionsBelow n (c .expression)) ≡ true → ConditionInRange n c
-condition-in-range n c h =
+condition-in-range : (n : ℕ) (c : Condition) → (within (negℤ (pos 200000)) (pos 200000) (c .threshold) && mentionsBelow n (c .expression)) ≡ true
+    → mentionCount (c .expression) ≤ 16 → ConditionInRange n c
+condition-in-range n c h room =
     let t : Bool = within (negℤ (pos 200000)) (pos 200000) (c .threshold) in
     let m : Bool = mentionsBelow n (c .expression) in
-    record { threshold = and-left t m h; mentions = and-right t m h }
+    record { threshold = and-left t m h; mentionsRoom = room; mentions = and-right t m h }
 
 -- ---- a book
 
@@ -150,38 +154,38 @@ module _ (so : BookSoFar) (b : Bounded so) where
     unfolding withRule
     rule-room = omega (arith, rules-at-most (changed so s v) changed-in-range, length-append (lastPolicy (so .book) .rules) (record { signal = s; score = v } ∷ []))
 
-  bounded-after : (f : Form) → Passed so f → Bounded (after so f)
+  bounded-after : (f : Form) → Passed so f → FewMentions f → Bounded (after so f)
   unfolding after bookWith opensRules inPlace inCount inRange withPolicies withLast
-  bounded-after (policy o d) p =
+  bounded-after (policy o d) p few =
       let q : Policy = record { operator = o; default = defaultOf o d; rules = [] } in
       let empty = eqb-true (length (so .book .conditions)) 0 (p .place) in
       let room = ltb-true (length (so .book .policies)) 16 (p .count) in
       record { range = policy-added (so .book) (b .range) q empty room (new-in-range o d (p .range)); some = λ _. omega (arith, length-append (so .book .policies) (q ∷ [])) }
-  bounded-after (rule s v) p =
+  bounded-after (rule s v) p few =
       let same = length-set (so .book .policies) (length (so .book .policies) - 1) (changed so s v) in
       record { range = last-changed (so .book) (b .range) (changed so s v) (changed-in-range s v p); some = λ _. omega (arith, rule-some s v p) }
-  bounded-after (condition c t e) p =
+  bounded-after (condition c t e) p few =
       let k : Condition = record { sense = c; threshold = t; expression = e } in
       let room = ltb-true (length (so .book .conditions)) 8 (p .count) in
-      record { range = condition-added (so .book) (b .range) k room (condition-in-range (length (so .book .policies)) k (p .range)); some = λ h. clash h refl }
+      record { range = condition-added (so .book) (b .range) k room (condition-in-range (length (so .book .policies)) k (p .range) few); some = λ h. clash h refl }
 
-pub accept-bounded : (n : ℕ) (so next : BookSoFar) (f : Form) → Bounded so → accept n so f ≡ result next → Bounded next
-accept-bounded n so next f b h =
+pub accept-bounded : (n : ℕ) (so next : BookSoFar) (f : Form) → Bounded so → FewMentions f → accept n so f ≡ result next → Bounded next
+accept-bounded n so next f b few h =
     let p = passed n so next f h in
-    subst Bounded (result-is (accept-fine n so f (p .place) (p .count) (p .range) (p .new) ∙ h)) (bounded-after so b f p)
+    subst Bounded (result-is (accept-fine n so f (p .place) (p .count) (p .range) (p .new) ∙ h)) (bounded-after so b f p few)
 
 -- ---- the lines from the top
 
-form-bounded : (n : ℕ) (so next : BookSoFar) (o : Option Form) → Bounded so → acceptForm n so o ≡ result next → Bounded next
+form-bounded : (n : ℕ) (so next : BookSoFar) (o : Option Form) → Bounded so → Finds FewMentions o → acceptForm n so o ≡ result next → Bounded next
 unfolding acceptForm
-form-bounded n so next none b h = no-refusal (sym h)
-form-bounded n so next (some f) b h = accept-bounded n so next f b h
+form-bounded n so next none b few h = no-refusal (sym h)
+form-bounded n so next (some f) b few h = accept-bounded n so next f b few h
 
 line-bounded : (n : ℕ) (so next : BookSoFar) (l : Line) → Bounded so → readLine n so l ≡ result next → Bounded next
 unfolding readLine
 line-bounded n so next l b h =
     let short = required (leb (length (l .text)) 128) 1 n _ next h in
-    form-bounded n so next (form (l .text)) b (required (l .ended) 2 n _ next (short .1) .1)
+    form-bounded n so next (form (l .text)) b (form-mentions (l .text) (leb-true (length (l .text)) 128 (short .0))) (required (l .ended) 2 n _ next (short .1) .1)
 
 lines-in-range : (n : ℕ) (so : BookSoFar) (ls : List Line) (b : Book) → Bounded so → readLines n so ls ≡ result b → BookInRange b
 unfolding readLines

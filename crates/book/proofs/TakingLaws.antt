@@ -29,15 +29,16 @@ use Rattle.book.specs.declared.stored.Condition.{Condition as StoredCond
 use Rattle.book.specs.declared.stored.Book.{Book as StoredBook}
 use Rattle.book.specs.declared.stored.SoFar.{SoFar as StoredSoFar}
 use Rattle.book.specs.declared.taking.Taken.{Taken}
+use Rattle.book.proofs.FormMentions.{FewMentions}
 use Rattle.book.proofs.StoredLaws.{opened-is, asked-is, stored-last}
 use Rattle.book.proofs.JudgeLaws.{accept-3}
 use Rattle.book.proofs.RangeLaws.{passed, rules-at-most, last-in-range, rule-some, rule-room, accept-bounded}
 
 -- ---- taken lines
 
-pub taken-fine : (n : ℕ) (so : BookSoFar) (f : Form) (t : Taken) → Bounded so → Judged so f Fine → t .verdict ≡ Fine → t .so ≡ storedSoFar (after so f)
+pub taken-fine : (n : ℕ) (so : BookSoFar) (f : Form) (t : Taken) → Bounded so → FewMentions f → Judged so f Fine → t .verdict ≡ Fine → t .so ≡ storedSoFar (after so f)
     → TakenAs n (accept n so f) t
-taken-fine n so f t b j v e = subst (λ (a : Answer BookSoFar). TakenAs n a t) (j n) (v, e, accept-bounded n so (after so f) f b (sym (j n)))
+taken-fine n so f t b few j v e = subst (λ (a : Answer BookSoFar). TakenAs n a t) (j n) (v, e, accept-bounded n so (after so f) f b few (sym (j n)))
 
 pub taken-refused : (n : ℕ) (so : BookSoFar) (f : Form) (r : Reason) (t : Taken) → Judged so f (Refused r) → t .verdict ≡ Refused r → TakenAs n (accept n so f) t
 taken-refused n so f r t j v = subst (λ (a : Answer BookSoFar). TakenAs n a t) (j n) (ap (λ (w : Verdict). verdictMeaning n w noLine) v)

@@ -1,12 +1,13 @@
 -- What every accepted book keeps to (document 01, "Ranges" and the limits of "The book"); proved in proofs/RangeLaws.antt.
-use Prim.Native.Nat.{ℕ, _≤_}
+use Prim.Native.Nat.{ℕ, _+_, _≤_}
 use mathlib.Core.Bool.{true}
 use mathlib.Core.List.{List, map}
 use mathlib.Core.Path.{_≡_}
 use lib.IntN.{pos, negℤ}
 use lib.ListN.{length}
 use Rattle.arith.specs.Lists.{Each, AllBelow, Distinct}
-use Rattle.peal.specs.Policies.{Rule, Policy, Condition, Book}
+use Rattle.arith.specs.Trees.{treeValue}
+use Rattle.peal.specs.Policies.{Rule, Policy, MinMax, Expression, Condition, Book}
 use Rattle.peal.specs.declared.Operator.the-variants.{Mul}
 use Rattle.book.specs.Acceptance.{within, scoreInRange, mentionsBelow}
 
@@ -22,9 +23,14 @@ pub record PolicyInRange (p : Policy) : Type 0 where
   pub scores : Each (λ (r : Rule). scoreInRange (p .operator) (r .score) ≡ true) (p .rules)
   pub room : p .operator ≡ Mul → length (p .rules) ≤ 8
 
--- T, and mentions of the first n policies alone
+-- how many mentions of a policy an expression has
+unfoldable pub mentionCount : Expression → ℕ
+mentionCount e = treeValue (λ (m : MinMax) a b. a + b) (λ n. 1) e
+
+-- T, at most 16 mentions, and those of the first n policies alone
 pub record ConditionInRange (n : ℕ) (c : Condition) : Type 0 where
   pub threshold : within (negℤ (pos 200000)) (pos 200000) (c .threshold) ≡ true
+  pub mentionsRoom : mentionCount (c .expression) ≤ 16
   pub mentions : mentionsBelow n (c .expression) ≡ true
 
 -- at most 16 policies and 8 conditions, each in range

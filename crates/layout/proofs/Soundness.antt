@@ -168,10 +168,13 @@ tree-well-formed (join j a b) v p ns g room h =
     (tree-well-formed a v p (postfix b ++ (joining j ∷ ns)) (g .0) (omega arith)
     (tree-well-formed b (v + 1) (p + policyCount a) (joining j ∷ ns) (g .1) (omega arith) last))
 
--- the listing of a tree that fits, of at most 16 policies, is sound
+-- the nodes of a tree that fits, of at most 16 policies, are well-formed, and their listing is sound
+pub tree-nodes : (t : ListedTree) → TreeFits t → policyCount t ≤ 16 → WellFormed 0 0 (postfix t)
+tree-nodes t g room =
+    subst (λ (ns : List ListedNode). WellFormed 0 0 ns) (append-nil (postfix t)) (tree-well-formed t 0 0 [] g (omega arith) (omega arith))
+
 pub tree-sound : (t : ListedTree) → TreeFits t → policyCount t ≤ 16 → verdict (words (listing (postfix t))) ≡ result tt
-tree-sound t g room =
-    listing-sound (postfix t) (subst (λ (ns : List ListedNode). WellFormed 0 0 ns) (append-nil (postfix t)) (tree-well-formed t 0 0 [] g (omega arith) (omega arith)))
+tree-sound t g room = listing-sound (postfix t) (tree-nodes t g room)
 
 -- ---- the nodes of a listing
 

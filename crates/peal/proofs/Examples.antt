@@ -1,11 +1,13 @@
--- Computed examples: the order of lines, equality in lines, and document 01's "Misreadings to shut out".
+-- Computed examples: the order of lines, equality in lines, no line that holds a smaller one, the search and the ranks.
 use Prim.Native.Nat.{ℕ}
 use mathlib.Core.List.{List, [], _∷_, map}
 use mathlib.Core.Path.{_≡_, refl}
 use lib.IntN.{ℤ, pos, negsuc}
 use Rattle.peal.specs.Policies.{Rule}
-use Rattle.peal.specs.Score.{scaled, policyScore}
-use Rattle.peal.specs.Lines.{lines}
+use Rattle.peal.specs.Ranking.{ranked}
+use Rattle.peal.specs.Ranks.{rank}
+use Rattle.peal.specs.Lines.{sumAbove, productAtMost, lines}
+use Rattle.peal.specs.Search.{foundFrom, foundSets}
 use Rattle.peal.specs.Translation.{maskOf}
 use Rattle.peal.specs.Computing.{pealComputes}
 use Rattle.peal.specs.declared.Operator.{Operator}
@@ -13,16 +15,12 @@ use Rattle.peal.specs.declared.Operator.the-variants.{Min, Max, Sum, Mul
 
 -- a rule: its signal and its score
 infix 90 _at_
-abbrev _at_ : ℕ → ℤ → Rule
+abbrev pub _at_ : ℕ → ℤ → Rule
 s at v = record { signal = s; score = v }
 
 -- the masks of the lines under a threshold
 abbrev masks : Operator → ℤ → List Rule → List ℕ
 masks op t rules = map maskOf (lines op t rules)
-
--- the score on a set, with a default
-abbrev scored : Operator → ℤ → List Rule → ℕ → ℤ
-scored op d rules set = policyScore set (record { operator = op; default = d; rules = rules })
 
 -- ---- lines in falling order of the sum of 2 to the rank
 
@@ -95,53 +93,8 @@ not-empty-mul : masks Mul (pos 99) (0 at pos 20 ∷ []) ≡ 1 ∷ []
 unfolding pealComputes
 not-empty-mul = refl
 
--- ---- misreadings to shut out (the first is `at-mul` above)
+-- ---- no line that holds a smaller line
 
--- no unit score for an absent rule of min or max
-absent-min : scored Min (pos 0) (0 at pos 150 ∷ 1 at pos 200 ∷ []) 1 ≡ scaled (pos 150)
-unfolding pealComputes
-absent-min = refl
-
-absent-max : scored Max (pos 0) (0 at negsuc 19 ∷ 1 at pos 30 ∷ []) 1 ≡ scaled (negsuc 19)
-unfolding pealComputes
-absent-max = refl
-
--- no default mixed in with present scores, nor used where a rule of score 0 is present
-default-sum : scored Sum (pos 30) (0 at pos 40 ∷ []) 1 ≡ scaled (pos 40)
-unfolding pealComputes
-default-sum = refl
-
-default-zero : scored Sum (pos 30) (0 at pos 0 ∷ []) 1 ≡ scaled (pos 0)
-unfolding pealComputes
-default-zero = refl
-
-default-min : scored Min (pos 10) (0 at pos 40 ∷ []) 1 ≡ scaled (pos 40)
-unfolding pealComputes
-default-min = refl
-
-default-max : scored Max (pos 90) (0 at pos 40 ∷ []) 1 ≡ scaled (pos 40)
-unfolding pealComputes
-default-max = refl
-
-default-mul : scored Mul (pos 50) (0 at pos 40 ∷ []) 1 ≡ scaled (pos 40)
-unfolding pealComputes
-default-mul = refl
-
--- and the default alone where no rule is present
-no-rule-present : scored Mul (negsuc 49) (0 at pos 40 ∷ []) 2 ≡ scaled (negsuc 49)
-unfolding pealComputes
-no-rule-present = refl
-
--- no product rounded step by step: 0.15 × 0.15 × 0.34 is 0.00765 exactly, and 0.01 to the 8 is one part
-exact-product : scored Mul (pos 0) (0 at pos 15 ∷ 1 at pos 15 ∷ 2 at pos 34 ∷ []) 7 ≡ pos 76500000000000
-unfolding pealComputes
-exact-product = refl
-
-one-part : scored Mul (pos 0) (0 at pos 1 ∷ 1 at pos 1 ∷ 2 at pos 1 ∷ 3 at pos 1 ∷ 4 at pos 1 ∷ 5 at pos 1 ∷ 6 at pos 1 ∷ 7 at pos 1 ∷ []) 255 ≡ pos 1
-unfolding pealComputes
-one-part = refl
-
--- no line that holds a smaller line
 no-larger-sum : masks Sum (pos 50) (0 at pos 60 ∷ 1 at pos 10 ∷ []) ≡ 1 ∷ []
 unfolding pealComputes
 no-larger-sum = refl
@@ -149,3 +102,20 @@ no-larger-sum = refl
 no-larger-mul : masks Mul (pos 50) (0 at pos 40 ∷ 1 at pos 10 ∷ []) ≡ 2 ∷ 1 ∷ []
 unfolding pealComputes
 no-larger-mul = refl
+
+-- ---- the search and the ranks, on the sum policy of document 01's book A and the mul policy of its case f
+
+abbrev bookA : List Rule
+bookA = 0 at pos 40 ∷ 1 at pos 30 ∷ 2 at pos 30 ∷ []
+
+search-sum : map maskOf (foundSets (sumAbove (pos 50)) (ranked Sum bookA)) ≡ 5 ∷ 3 ∷ 6 ∷ []
+unfolding pealComputes foundSets foundFrom
+search-sum = refl
+
+search-mul : map maskOf (foundSets (productAtMost (pos 25)) (ranked Mul (0 at pos 50 ∷ 1 at pos 50 ∷ []))) ≡ 3 ∷ []
+unfolding pealComputes foundSets foundFrom
+search-mul = refl
+
+ranks : map (rank Sum bookA) bookA ≡ 2 ∷ 0 ∷ 1 ∷ []
+unfolding pealComputes rank
+ranks = refl

@@ -9,14 +9,15 @@ use lib.Bits as bits
 use lib.Dec.{eqb, leb}
 use borrow.Author.Tests.{eqb-true, eq-eqb, ne-eqb, leb-false}
 use Rattle.arith.specs.Lists.{every, any, below}
-use Rattle.arith.proofs.Tests.{same-answer, and-left, and-right, not-and, every-low, any-low, any-alike}
+use Rattle.arith.proofs.AnyEvery.{any-same}
+use Rattle.arith.proofs.Tests.{same-answer, and-left, and-right, not-and, every-low, any-low}
 use Rattle.signals.specs.Sets.{signals, isSet, present, inside, overlap}
 
-present-zero : (a : ℕ) → present a 0 ≡ eqb (a % 2) 1
+pub present-zero : (a : ℕ) → present a 0 ≡ eqb (a % 2) 1
 unfolding present
 present-zero a = rw div-one refl
 
-present-suc : (a s : ℕ) → present a (suc s) ≡ present (a / 2) s
+pub present-suc : (a s : ℕ) → present a (suc s) ≡ present (a / 2) s
 unfolding present
 present-suc a s = rw (div-div-eq-div-mul a 2 (2 ^ s), pow-succ' 2 s) refl
 
@@ -89,7 +90,7 @@ inside-and mask set h = inside-below 16 mask set h
 pub overlap-and : (mask set : ℕ) → set < 2 ^ 16 → overlap mask set ≡ not (eqb (bitAnd mask set) 0)
 unfolding overlap signals
 overlap-and mask set h =
-    any-alike 16 (λ s. present mask s && present set s) (λ s. present set s && present mask s) (λ s. and-comm (present mask s) (present set s))
+    any-same (λ s. present mask s && present set s) (λ s. present set s && present mask s) signals (λ s m. and-comm (present mask s) (present set s))
     ∙ overlap-below 16 set mask h
     ∙ ap (λ (x : ℕ). not (eqb x 0)) (bits.and-comm set mask)
 

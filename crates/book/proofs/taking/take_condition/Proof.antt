@@ -4,6 +4,7 @@ use native.Mathlib.Omega.{arith}
 use mir.Syntax.{w32}
 use mir.ValLaws.{toZ-ofZ}
 use Rattle.book.specs.Forms.{condition}
+use Rattle.book.proofs.MentionLaws.{codes-count}
 use Rattle.book.proofs.TakingLaws.{taken-fine, taken-refused, judged-as, condition-judged-at, kept-book, kept-opened, kept-asked, condition-so-far, stored-codes}
 use borrow.Author.Needs.{needs}
 use Rattle.book.proofs.taking.take_condition.Statement.{statement}
@@ -30,7 +31,7 @@ returns c =
     λ n so x e b l k.
     let h = condition-judged-at so _ (j .judge-condition .result) _ _ x z (j .judge-condition .ensures .0 so _ x (kept-asked _ so e) (kept-opened _ so e) l k) in
     let v = judged-as so (condition _ _ x) _ _ (m .enum-told .given .1) h in
-    taken-fine n so (condition _ _ x) _ b v refl (condition-so-far so _ _ _ x (c .add-condition .ensures (so .book) _ (kept-book _ so e) (stored-codes _ _ _ _ _ x z l k)))
+    taken-fine n so (condition _ _ x) _ b (omega (arith, l, s .pre .1, codes-count x)) v refl (condition-so-far so _ _ _ x (c .add-condition .ensures (so .book) _ (kept-book _ so e) (stored-codes _ _ _ _ _ x z l k)))
 
 returns-2 : tie.Need-returns-2
 returns-2 c =

@@ -27,7 +27,7 @@ returns c =
     let s = j .before .before in
     λ n so d e b z g.
     let v = judged-as so (policy _ d) _ _ (m .enum-told .given .1) (j .judge-policy .ensures .0 so _ d (kept-asked _ so e) (kept-opened _ so e) g) in
-    taken-fine n so (policy _ d) _ b v refl
+    taken-fine n so (policy _ d) _ b tt v refl
     (policy-so-far so _ _ d _ (toZ-ofZ w32 (s .args .default) (s .fits .default) ∙ z) (c .add-policy .ensures (so .book) (kept-book _ so e)))
 
 returns-2 : tie.Need-returns-2

@@ -48,7 +48,7 @@ returns c =
     λ n so e b.
     let h = rule-judged-at so _ (j .judge-rule .result) _ _ z (j .judge-rule .ensures so (kept-inside _ so e) (kept-last _ so e b (i .if1 .taken) _)) in
     let v = judged-as so (rule _ _) _ _ (m .enum-told .given .1) h in
-    taken-fine n so (rule _ _) _ b v refl (rule-so-far so _ _ _ (rule-held-at so _ _ _ _ z (c .add-rule .ensures (so .book) (kept-book _ so e))))
+    taken-fine n so (rule _ _) _ b tt v refl (rule-so-far so _ _ _ (rule-held-at so _ _ _ _ z (c .add-rule .ensures (so .book) (kept-book _ so e))))
 
 returns-2 : tie.Need-returns-2
 returns-2 c =

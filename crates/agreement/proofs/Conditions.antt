@@ -1,0 +1,81 @@
+-- The rod's answer on a condition's listing is the decision: min and max of scores become and and or of answers.
+use Prim.Native.Nat.{ℕ, _+_, _≤_}
+use mathlib.Core.Bool.{Bool}
+use mathlib.Core.List.{List}
+use mathlib.Core.Path.{_≡_, refl, sym, ap, ap₂, _∙_}
+use native.Mathlib.Omega.{arith}
+use lib.IntN.{ℤ}
+use Rattle.answers.specs.Answers.{result}
+use Rattle.arith.specs.Lists.{Each}
+use Rattle.arith.specs.Trees.{leaf, join, mapTree, treeValue}
+use Rattle.arith.proofs.Each.{each-default}
+use Rattle.layout.specs.Nodes.{ListedTree}
+use Rattle.layout.specs.WellFormed.{TreeFits, policyCount}
+use Rattle.rod.specs.Reading.{policyValue, joined}
+use Rattle.rod.proofs.Trees.{rod-tree}
+use Rattle.peal.specs.Policies.{Policy, MinMax, smaller, larger, Expression, Condition, Book, emptyPolicy, policyAt}
+use Rattle.peal.specs.Score.{scaled, ofTwo, score, meets, decision}
+use Rattle.peal.specs.Translation.{joinOf, listed, translated, listingRecords}
+use Rattle.peal.specs.declared.Sense.{Sense}
+use Rattle.peal.specs.declared.Sense.the-variants.{Above, AtMost}
+use Rattle.peal.proofs.MaskLaws.{listed-fits}
+use Rattle.peal.proofs.TwoLaws.{larger-above, smaller-above, larger-at-most, smaller-at-most}
+use Rattle.book.specs.Acceptance.{within}
+use Rattle.book.specs.Ranges.{PolicyInRange, mentionCount}
+use Rattle.agreement.specs.ConditionAgreement.{ConditionAgreement}
+use Rattle.agreement.proofs.Policies.{signals-fit, policy-agreement}
+
+-- the smaller or larger of two scores meets the condition where the join of the two answers says so
+meets-two : (s : Sense) (t : ℤ) (m : MinMax) (a b : ℤ) → meets s t (ofTwo m a b) ≡ joined (joinOf s m) (meets s t a) (meets s t b)
+unfolding meets joined joinOf
+meets-two Above t smaller a b = smaller-above (scaled t) a b
+meets-two Above t larger a b = larger-above (scaled t) a b
+meets-two AtMost t smaller a b = smaller-at-most (scaled t) a b
+meets-two AtMost t larger a b = larger-at-most (scaled t) a b
+
+-- a policy that is not there is in range too
+empty-in-range : PolicyInRange emptyPolicy
+unfolding emptyPolicy within
+empty-in-range = record { default = refl; signals = tt; distinct = tt; scores = tt; room = λ e. omega arith }
+
+policy-in-range : (ps : List Policy) → Each PolicyInRange ps → (n : ℕ) → PolicyInRange (policyAt ps n)
+unfolding policyAt
+policy-in-range ps ranges n = each-default PolicyInRange ps n emptyPolicy ranges empty-in-range
+
+module _ (ps : List Policy) (s : Sense) (t : ℤ) where
+  -- the tree of an expression
+  abbrev tree : Expression → ListedTree
+  tree e = mapTree (joinOf s) (λ n. listed s t (policyAt ps n)) e
+
+  tree-policies : (e : Expression) → policyCount (tree e) ≡ mentionCount e
+  unfolding mapTree policyCount mentionCount treeValue
+  tree-policies (leaf n) = refl
+  tree-policies (join m a b) = ap₂ (λ (x y : ℕ). x + y) (tree-policies a) (tree-policies b)
+
+  module _ (ranges : Each PolicyInRange ps) where
+    tree-fits : (e : Expression) → TreeFits (tree e)
+    unfolding mapTree
+    tree-fits (leaf n) = listed-fits s t (policyAt ps n) (signals-fit (policyAt ps n) (policy-in-range ps ranges n))
+    tree-fits (join m a b) = (tree-fits a, tree-fits b)
+
+    tree-agrees : (set : ℕ) (e : Expression) → treeValue joined (policyValue set) (tree e) ≡ meets s t (score ps set e)
+    unfolding mapTree treeValue score
+    tree-agrees set (leaf n) = policy-agreement (policyAt ps n) s t set (policy-in-range ps ranges n)
+    tree-agrees set (join m a b) = ap₂ (joined (joinOf s m)) (tree-agrees set a) (tree-agrees set b) ∙ sym (meets-two s t m (score ps set a) (score ps set b))
+
+-- ---- the condition
+
+module _ (b : Book) (c : Condition) where
+  pub condition-policies : mentionCount (c .expression) ≤ 16 → policyCount (translated (b .policies) c) ≤ 16
+  unfolding translated
+  condition-policies room = omega (arith, tree-policies (b .policies) (c .sense) (c .threshold) (c .expression))
+
+  pub condition-fits : Each PolicyInRange (b .policies) → TreeFits (translated (b .policies) c)
+  unfolding translated
+  condition-fits ranges = tree-fits (b .policies) (c .sense) (c .threshold) ranges (c .expression)
+
+pub condition-agreement : ConditionAgreement
+unfolding listingRecords translated decision
+condition-agreement b c set ranges room =
+    rod-tree (translated (b .policies) c) set (condition-fits b c ranges) (condition-policies b c room)
+    ∙ ap (λ (a : Bool). result a) (tree-agrees (b .policies) (c .sense) (c .threshold) ranges set (c .expression))

@@ -1,0 +1,4 @@
+pub mod Policies
+pub mod Conditions
+pub mod Words
+pub mod Books

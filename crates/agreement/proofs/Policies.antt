@@ -1,0 +1,90 @@
+-- The rod's reading of a policy's record is the condition on its score.
+use Prim.Native.Nat.{ℕ}
+use mathlib.Core.Bool.{Bool, true, false, cond}
+use mathlib.Core.List.{List, [], _∷_}
+use mathlib.Core.Path.{_≡_, refl, sym, ap, _∙_}
+use lib.IntN.{ℤ, pos}
+use lib.Signed.{leZ}
+use Rattle.arith.specs.Lists.{any}
+use Rattle.arith.proofs.AnyEvery.{any-kept}
+use Rattle.arith.proofs.Members.{each-in, each-out}
+use Rattle.arith.proofs.Tests.{and-left, clash}
+use Rattle.signals.specs.Sets.{present, overlap}
+use Rattle.rod.specs.Reading.{someLine, policyValue}
+use Rattle.peal.specs.Policies.{Rule, Policy}
+use Rattle.peal.specs.Score.{presentRules, scoreOf, policyScore, meets}
+use Rattle.peal.specs.Translation.{quiet, turned, maskOf, listed}
+use Rattle.peal.specs.Having.{has}
+use Rattle.peal.specs.Presence.{somePresent}
+use Rattle.peal.specs.MeetingIsHaving.{turnedOver}
+use Rattle.peal.specs.SearchFindsLines.{scoreFits, RulesFit}
+use Rattle.peal.specs.MasksDecide.{SignalsFit}
+use Rattle.peal.specs.declared.Operator.{Operator}
+use Rattle.peal.specs.declared.Operator.the-variants.{Min, Max, Sum, Mul}
+use Rattle.peal.specs.declared.Sense.{Sense}
+use Rattle.peal.proofs.InsideLaws.{lines-decide}
+use Rattle.peal.proofs.MaskLaws.{masks-decide, masks-inside}
+use Rattle.peal.proofs.MeetingLaws.{meeting-is-having, quiet-is-meeting}
+use Rattle.book.specs.Acceptance.{within, scoreInRange}
+use Rattle.book.specs.Ranges.{PolicyInRange}
+use Rattle.agreement.specs.PolicyAgreement.{LinesAgreement, QuietAgreement, PolicyAgreement}
+
+-- ---- what document 01's ranges give
+
+pub signals-fit : (p : Policy) → PolicyInRange p → SignalsFit (p .rules)
+signals-fit p h = record { below = h .signals; different = h .distinct }
+
+score-fits : (o : Operator) (v : ℤ) → scoreInRange o v ≡ true → scoreFits o v ≡ true
+unfolding scoreInRange scoreFits within
+score-fits Sum v h = and-left (leZ (pos 0) v) (leZ v (pos 10000)) h
+score-fits Mul v h = h
+score-fits Max v h = refl
+score-fits Min v h = refl
+
+rules-fit : (p : Policy) → PolicyInRange p → RulesFit (p .operator) (p .rules)
+rules-fit p h =
+    let Ranged : Rule → Type 0 = λ r. scoreInRange (p .operator) (r .score) ≡ true in
+    let Fits : Rule → Type 0 = λ r. scoreFits (p .operator) (r .score) ≡ true in
+    record { scores = each-in Fits (p .rules) (λ r m. score-fits (p .operator) (r .score) (each-out Ranged (h .scores) m)); room = h .room }
+
+-- ---- the two halves
+
+module _ (p : Policy) (s : Sense) (t : ℤ) (set : ℕ) (h : PolicyInRange p) where
+  -- the mask shares a signal with the set exactly if some rule is present
+  shared : overlap (maskOf (p .rules)) set ≡ any (λ r. true) (presentRules set (p .rules))
+  unfolding presentRules somePresent
+  shared = masks-decide (p .rules) set (signals-fit p h) .1 ∙ any-kept (λ r. present set (r .signal)) (p .rules)
+
+  -- some line lies inside the set exactly if the present rules have the property
+  line-inside : someLine (listed s t p .lines) set ≡ has (p .operator) t (presentRules set (p .rules))
+  unfolding someLine listed
+  line-inside =
+      masks-inside (p .operator) t (p .rules) (signals-fit p h) set
+      ∙ lines-decide (p .operator) t (p .rules) set (rules-fit p h)
+
+pub lines-agreement : LinesAgreement
+unfolding policyScore
+lines-agreement p s t set h e = go (presentRules set (p .rules)) refl
+  where
+    go : (X : List Rule) → presentRules set (p .rules) ≡ X → turnedOver (turned s (p .operator)) (someLine (listed s t p .lines) set) ≡ meets s t (policyScore set p)
+    go [] f = clash e (shared p s t set h ∙ ap (any (λ r. true)) f)
+    go (r ∷ rs) f =
+        ap (turnedOver (turned s (p .operator))) (line-inside p s t set h ∙ ap (has (p .operator) t) f)
+        ∙ sym (meeting-is-having p s t r rs) ∙ ap (λ (X : List Rule). meets s t (scoreOf p X)) (sym f)
+
+pub quiet-agreement : QuietAgreement
+unfolding policyScore
+quiet-agreement p s t set h e = go (presentRules set (p .rules)) refl
+  where
+    go : (X : List Rule) → presentRules set (p .rules) ≡ X → quiet s t p ≡ meets s t (policyScore set p)
+    go [] f = quiet-is-meeting p s t ∙ ap (λ (X : List Rule). meets s t (scoreOf p X)) (sym f)
+    go (r ∷ rs) f = clash (shared p s t set h ∙ ap (any (λ r. true)) f) e
+
+pub policy-agreement : PolicyAgreement
+unfolding policyValue listed
+policy-agreement p s t set h = go (overlap (maskOf (p .rules)) set) refl
+  where
+    go : (b : Bool) → overlap (maskOf (p .rules)) set ≡ b
+        → cond b (turnedOver (turned s (p .operator)) (someLine (listed s t p .lines) set)) (quiet s t p) ≡ meets s t (policyScore set p)
+    go true e = lines-agreement p s t set h e
+    go false e = quiet-agreement p s t set h e

@@ -1,0 +1,4 @@
+pub mod PolicyAgreement
+pub mod ConditionAgreement
+pub mod WordsFit
+pub mod BookAgreement

@@ -1,0 +1,83 @@
+-- Laws of tests over lists: that any member passes, and that every member does.
+use mathlib.Core.Bool.{Bool, true, false, not, cond, _&&_, _||_, or-assoc, and-true}
+use mathlib.Core.List.{List, [], _∷_, _++_, map, List·Memᴰ, List·Memᴰ·head, List·Memᴰ·tail}
+use mathlib.Core.Path.{_≡_, refl, sym, ap, ap₂, _∙_}
+use Rattle.arith.specs.Lists.{every, any, keep}
+use Rattle.arith.proofs.Tests.{clash, and-swap, or-right}
+
+module _ {A : Type 0} (test : A → Bool) where
+  -- ---- some member passes
+
+  pub any-in : {xs : List A} {x : A} → List·Memᴰ x xs → test x ≡ true → any test xs ≡ true
+  any-in (List·Memᴰ·head e) h = rw (sym (ap test e) ∙ h)
+  any-in (List·Memᴰ·tail {x = y} {xs = xs} m) h = or-right (test y) (any test xs) (any-in m h)
+
+  pub any-out : (xs : List A) → any test xs ≡ true → (x : A) × List·Memᴰ x xs × (test x ≡ true)
+  any-out [] h = clash h refl
+  any-out (x ∷ xs) h = go (test x) refl h (λ k. any-out xs k)
+    where
+      go : (t : Bool) → test x ≡ t → (t || any test xs) ≡ true → (any test xs ≡ true → (y : A) × List·Memᴰ y xs × (test y ≡ true))
+          → (y : A) × List·Memᴰ y (x ∷ xs) × (test y ≡ true)
+      go true e k f = (x, List·Memᴰ·head refl, e)
+      go false e k f = let (y, m, q) = f k in (y, List·Memᴰ·tail m, q)
+
+  pub any-none : ((x : A) → test x ≡ false) → (xs : List A) → any test xs ≡ false
+  any-none h [] = refl
+  any-none h (x ∷ xs) = rw (h x) (any-none h xs)
+
+  pub any-append : (xs ys : List A) → any test (xs ++ ys) ≡ (any test xs || any test ys)
+  any-append [] ys = refl
+  any-append (x ∷ xs) ys = rw (any-append xs ys) (sym (or-assoc (test x) (any test xs) (any test ys)))
+
+  -- another test that says the same of each member
+  pub any-same : (other : A → Bool) (xs : List A) → ((x : A) → List·Memᴰ x xs → test x ≡ other x) → any test xs ≡ any other xs
+  any-same other [] h = refl
+  any-same other (x ∷ xs) h = ap₂ (λ (a b : Bool). a || b) (h x (List·Memᴰ·head refl)) (any-same other xs (λ y m. h y (List·Memᴰ·tail m)))
+
+  -- among those that pass another test
+  pub any-keep : (other : A → Bool) (xs : List A) → any test (keep other xs) ≡ any (λ x. other x && test x) xs
+  any-keep other [] = refl
+  any-keep other (x ∷ xs) = rw (sym (any-keep other xs)) (go (other x))
+    where
+      go : (t : Bool) → any test (cond t (x ∷ keep other xs) (keep other xs)) ≡ (t && test x || any test (keep other xs))
+      go true = refl
+      go false = refl
+
+  pub any-not-every : (xs : List A) → any test xs ≡ not (every (λ x. not (test x)) xs)
+  any-not-every [] = refl
+  any-not-every (x ∷ xs) = rw (any-not-every xs) (go (test x) (every (λ x. not (test x)) xs))
+    where
+      go : (a b : Bool) → (a || not b) ≡ not (not a && b)
+      go true b = refl
+      go false b = refl
+
+  -- ---- every member passes
+
+  pub every-all : ((x : A) → test x ≡ true) → (xs : List A) → every test xs ≡ true
+  every-all h [] = refl
+  every-all h (x ∷ xs) = rw (h x) (every-all h xs)
+
+  pub every-same : (other : A → Bool) (xs : List A) → ((x : A) → test x ≡ other x) → every test xs ≡ every other xs
+  every-same other [] h = refl
+  every-same other (x ∷ xs) h = ap₂ (λ (a b : Bool). a && b) (h x) (every-same other xs h)
+
+  pub every-and : (other : A → Bool) (xs : List A) → every (λ x. test x && other x) xs ≡ (every test xs && every other xs)
+  every-and other [] = refl
+  every-and other (x ∷ xs) = rw (every-and other xs) (go (test x) (other x) (every test xs) (every other xs))
+    where
+      go : (a b c d : Bool) → (a && b && (c && d)) ≡ (a && c && (b && d))
+      go true b c d = and-swap b c d
+      go false b c d = refl
+
+-- some member passes exactly if any are kept
+pub any-kept : {A : Type 0} (test : A → Bool) (xs : List A) → any test xs ≡ any (λ x. true) (keep test xs)
+any-kept test xs = sym (any-keep (λ x. true) test xs ∙ any-same (λ x. test x && true) test xs (λ x m. and-true (test x)))
+
+module _ {A B : Type 0} (f : A → B) (test : B → Bool) where
+  pub any-map : (xs : List A) → any test (map f xs) ≡ any (λ x. test (f x)) xs
+  any-map [] = refl
+  any-map (x ∷ xs) = rw (any-map xs)
+
+  pub every-map : (xs : List A) → every test (map f xs) ≡ every (λ x. test (f x)) xs
+  every-map [] = refl
+  every-map (x ∷ xs) = rw (every-map xs)

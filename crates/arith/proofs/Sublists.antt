@@ -1,0 +1,70 @@
+-- Laws of sublists: lists that leave some members of another out and keep the order of the others.
+use Prim.Native.Nat.{_≤_, _<_}
+use mathlib.Core.Bool.{Bool, true, false, cond}
+use mathlib.Core.List.{List, [], _∷_, _++_, Sublistᴰ, Sublistᴰ·slnil, Sublistᴰ·cons, Sublistᴰ·cons-cons, Sublistᴰ·eq-nil, Sublistᴰ·nil-sublist, Sublistᴰ·refl}
+use mathlib.Core.Logic.{_⊎_, inl, inr, ⊎-elim}
+use mathlib.Core.Path.{_≡_, refl, sym, ap, ap₂, subst}
+use native.Mathlib.Omega.{arith}
+use lib.ListN.{length}
+use Rattle.arith.specs.Lists.{keep, Each}
+
+module _ {A : Type 0} where
+  pub inside-length : {Y X : List A} → Sublistᴰ Y X → length Y ≤ length X
+  inside-length Sublistᴰ·slnil = omega arith
+  inside-length (Sublistᴰ·cons s) = omega (arith, inside-length s)
+  inside-length (Sublistᴰ·cons-cons e s) = omega (arith, inside-length s)
+
+  pub each-inside : (P : A → Type 0) {Y X : List A} → Sublistᴰ Y X → Each P X → Each P Y
+  each-inside P Sublistᴰ·slnil h = tt
+  each-inside P (Sublistᴰ·cons s) h = each-inside P s (h .1)
+  each-inside P (Sublistᴰ·cons-cons e s) h = (subst P (sym e) (h .0), each-inside P s (h .1))
+
+  pub front-inside : (X Y : List A) → Sublistᴰ X (X ++ Y)
+  front-inside [] Y = Sublistᴰ·nil-sublist Y
+  front-inside (x ∷ X) Y = Sublistᴰ·cons-cons refl (front-inside X Y)
+
+  pub behind-inside : (X Y : List A) → Sublistᴰ Y (X ++ Y)
+  behind-inside [] Y = Sublistᴰ·refl Y
+  behind-inside (x ∷ X) Y = Sublistᴰ·cons (behind-inside X Y)
+
+  pub keep-inside : (test : A → Bool) (xs : List A) → Sublistᴰ (keep test xs) xs
+  keep-inside test [] = Sublistᴰ·slnil
+  keep-inside test (x ∷ xs) = go (test x) (keep-inside test xs)
+    where
+      go : (t : Bool) → Sublistᴰ (keep test xs) xs → Sublistᴰ (cond t (x ∷ keep test xs) (keep test xs)) (x ∷ xs)
+      go true s = Sublistᴰ·cons-cons refl s
+      go false s = Sublistᴰ·cons s
+
+  -- a shorter list inside X leaves a member of X out, and lies inside the others
+  pub record LeftOut (Y X : List A) : Type 0 where
+    pub front : List A
+    pub member : A
+    pub behind : List A
+    pub whole : X ≡ front ++ (member ∷ behind)
+    pub others : Sublistᴰ Y (front ++ behind)
+
+  pub left-out : {Y X : List A} → Sublistᴰ Y X → length Y < length X → LeftOut Y X
+  left-out Sublistᴰ·slnil h = absurd (omega arith)
+  left-out (Sublistᴰ·cons {a = a} {l₂ = X} s) h = record { front = []; member = a; behind = X; whole = refl; others = s }
+  left-out (Sublistᴰ·cons-cons {b = b} e s) h =
+      let l = left-out s (omega arith) in
+      record {
+        front = b ∷ l .front;
+        member = l .member;
+        behind = l .behind;
+        whole = ap {B = List A} (λ xs. b ∷ xs) (l .whole);
+        others = Sublistᴰ·cons-cons e (l .others);
+      }
+
+  -- a list inside X and a last member lies inside X, or has that member behind a list inside X
+  pub inside-last : (X : List A) {Y : List A} {r : A} → Sublistᴰ Y (X ++ (r ∷ []))
+      → Sublistᴰ Y X ⊎ ((Z : List A) × (Y ≡ Z ++ (r ∷ [])) × Sublistᴰ Z X)
+  inside-last [] (Sublistᴰ·cons s) = inl s
+  inside-last [] (Sublistᴰ·cons-cons e s) = inr ([], ap₂ {B = List A} (λ a l. a ∷ l) e (Sublistᴰ·eq-nil s), Sublistᴰ·slnil)
+  inside-last (x ∷ X) (Sublistᴰ·cons s) =
+      ⊎-elim (λ t. inl (Sublistᴰ·cons t)) (λ t. inr (t .0, t .1, Sublistᴰ·cons (t .2))) (inside-last X s)
+  inside-last (x ∷ X) (Sublistᴰ·cons-cons {a = a} e s) =
+      ⊎-elim
+      (λ t. inl (Sublistᴰ·cons-cons e t))
+      (λ t. inr (a ∷ t .0, ap {B = List A} (λ l. a ∷ l) (t .1), Sublistᴰ·cons-cons e (t .2)))
+      (inside-last X s)

@@ -1,0 +1,94 @@
+-- The property of lines, for each operator: it does not see the rules' order, and it is kept with a rule more and with a rule of higher rank.
+use Prim.Native.Nat.{ℕ, suc, _*_, _-_, _^_, _≤_}
+use mathlib.Core.Bool.{true, false}
+use mathlib.Core.List.{List, [], _∷_, List·Permᴰ}
+use mathlib.Core.Path.{_≡_, refl, sym, ap, ap₂, subst, _∙_}
+use native.Mathlib.Nat.{pow-succ'}
+use native.Mathlib.Omega.{arith}
+use lib.IntN.{ℤ, pos, _+ℤ_, _*ℤ_, *ℤ-comm, +ℤ-idl}
+use lib.ListN.{length}
+use lib.Signed.{leZ, ltZ}
+use Rattle.arith.specs.Lists.{any, Each}
+use Rattle.arith.proofs.Order.{above, leZ-trans, ltZ-leZ-trans, not-less, leZ-plus, leZ-times, scale-scale}
+use Rattle.arith.proofs.Whole.{+ℤ-swap, *ℤ-swap, not-negative}
+use Rattle.arith.proofs.Tests.{and-left, and-right, or-right, or-then}
+use Rattle.arith.proofs.Reordering.{same-reordered, length-reordered, any-reordered}
+use Rattle.peal.specs.Policies.{Rule}
+use Rattle.peal.specs.Score.{scaled, total, product, scaledProduct}
+use Rattle.peal.specs.Ranking.{ranksAbove}
+use Rattle.peal.specs.Lines.{sumAbove, productAtMost}
+use Rattle.peal.specs.Having.{has}
+use Rattle.peal.specs.SearchFindsLines.{scoreFits, RulesFit}
+use Rattle.peal.specs.declared.Operator.{Operator}
+use Rattle.peal.specs.declared.Operator.the-variants.{Min, Max, Sum, Mul}
+
+-- ---- the order of the rules
+
+total-reordered : {X Y : List Rule} → List·Permᴰ X Y → total X ≡ total Y
+unfolding total
+total-reordered d =
+    same-reordered total (λ a b X. +ℤ-swap (a .score) (b .score) (total X)) (λ a X Y e. ap (λ (z : ℤ). a .score +ℤ z) e) d
+
+product-reordered : {X Y : List Rule} → List·Permᴰ X Y → product X ≡ product Y
+unfolding product
+product-reordered d =
+    same-reordered product (λ a b X. *ℤ-swap (a .score) (b .score) (product X)) (λ a X Y e. ap (λ (z : ℤ). a .score *ℤ z) e) d
+
+pub has-reordered : (op : Operator) (t : ℤ) {X Y : List Rule} → List·Permᴰ X Y → has op t X ≡ has op t Y
+unfolding has sumAbove productAtMost scaledProduct
+has-reordered Sum t d = ap (ltZ t) (total-reordered d)
+has-reordered Mul t d =
+    ap₂ (λ (p : ℤ) (n : ℕ). leZ (p *ℤ pos (100 ^ (8 - n))) (scaled t)) (product-reordered d) (length-reordered d)
+has-reordered Max t d = any-reordered (λ r. ltZ t (r .score)) d
+has-reordered Min t d = any-reordered (λ r. leZ (r .score) t) d
+
+-- ---- a rule more, and a rule of higher rank, for each operator
+
+-- the product of scores that are not negative is a natural number
+product-natural : (X : List Rule) → Each (λ (r : Rule). scoreFits Mul (r .score) ≡ true) X → (p : ℕ) × (product X ≡ pos p)
+unfolding product scoreFits
+product-natural [] h = (1, refl)
+product-natural (r ∷ X) h =
+    let i = product-natural X (h .1) in
+    (above (r .score) * i .0, rw (i .1, not-negative (r .score) (and-left (leZ (pos 0) (r .score)) (leZ (r .score) (pos 100)) (h .0))))
+
+-- a product rises with one of its scores
+product-rises : (v w : ℤ) (X : List Rule) (n : ℕ) → Each (λ (r : Rule). scoreFits Mul (r .score) ≡ true) X → leZ v w ≡ true
+    → leZ (v *ℤ product X *ℤ pos n) (w *ℤ product X *ℤ pos n) ≡ true
+product-rises v w X n h l =
+    let p = product-natural X h in rw (p .1) (leZ-times (v *ℤ pos (p .0)) (w *ℤ pos (p .0)) n (leZ-times v w (p .0) l))
+
+-- one unit in place of one more score
+with-unit : (X : List Rule) (n : ℕ) → suc n ≤ 8 → pos 100 *ℤ product X *ℤ pos (100 ^ (8 - suc n)) ≡ product X *ℤ pos (100 ^ (8 - n))
+with-unit X n h =
+    let less : suc (8 - suc n) ≡ 8 - n = omega arith in
+    ap (λ (z : ℤ). z *ℤ pos (100 ^ (8 - suc n))) (*ℤ-comm (pos 100) (product X))
+    ∙ scale-scale (product X) 100 (100 ^ (8 - suc n))
+    ∙ ap (λ (k : ℕ). product X *ℤ pos k) (sym (pow-succ' 100 (8 - suc n)) ∙ ap (λ (k : ℕ). 100 ^ k) less)
+
+pub has-added : (op : Operator) (t : ℤ) (r : Rule) (X : List Rule) → RulesFit op (r ∷ X) → has op t X ≡ true → has op t (r ∷ X) ≡ true
+unfolding has sumAbove productAtMost scaledProduct product total scoreFits
+has-added Sum t r X fit h =
+    ltZ-leZ-trans t (total X) (r .score +ℤ total X) h (rw +ℤ-idl at (leZ-plus (pos 0) (r .score) (total X) (fit .scores .0)))
+has-added Mul t r X fit h =
+    leZ-trans (scaledProduct (r ∷ X)) (scaledProduct X) (scaled t)
+    (subst (λ (z : ℤ). leZ (scaledProduct (r ∷ X)) z ≡ true) (with-unit X (length X) (fit .room refl))
+    (product-rises (r .score) (pos 100) X (100 ^ (8 - suc (length X))) (fit .scores .1)
+    (and-right (leZ (pos 0) (r .score)) (leZ (r .score) (pos 100)) (fit .scores .0)))) h
+has-added Max t r X fit h = or-right (ltZ t (r .score)) (any (λ r. ltZ t (r .score)) X) h
+has-added Min t r X fit h = or-right (leZ (r .score) t) (any (λ r. leZ (r .score) t) X) h
+
+pub has-exchanged : (op : Operator) (t : ℤ) (a b : Rule) (X : List Rule) → RulesFit op X → ranksAbove op (b .score) (a .score) ≡ false
+    → has op t (b ∷ X) ≡ true → has op t (a ∷ X) ≡ true
+unfolding has sumAbove productAtMost scaledProduct product total ranksAbove
+has-exchanged Sum t a b X fit l h =
+    ltZ-leZ-trans t (b .score +ℤ total X) (a .score +ℤ total X) h (leZ-plus (b .score) (a .score) (total X) (not-less (a .score) (b .score) l))
+has-exchanged Mul t a b X fit l h =
+    leZ-trans (scaledProduct (a ∷ X)) (scaledProduct (b ∷ X)) (scaled t)
+    (product-rises (a .score) (b .score) X (100 ^ (8 - length (a ∷ X))) (fit .scores) (not-less (b .score) (a .score) l)) h
+has-exchanged Max t a b X fit l h =
+    or-then (ltZ t (b .score)) (ltZ t (a .score)) (any (λ r. ltZ t (r .score)) X)
+    (λ k. ltZ-leZ-trans t (b .score) (a .score) k (not-less (a .score) (b .score) l)) h
+has-exchanged Min t a b X fit l h =
+    or-then (leZ (b .score) t) (leZ (a .score) t) (any (λ r. leZ (r .score) t) X)
+    (λ k. leZ-trans (a .score) (b .score) t (not-less (b .score) (a .score) l) k) h

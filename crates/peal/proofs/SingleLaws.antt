@@ -1,0 +1,83 @@
+-- The minimal sets of "some rule passes a test" are the single rules that pass it: so the lines of max and min are minimal sets too.
+use mathlib.Core.Bool.{Bool, true, false, cond, _&&_, _||_, or-false}
+use mathlib.Core.List.{List, [], _∷_, _++_, map, Memᴰ·map, Memᴰ·of-map, Memᴰ·cast, Permᴰ·symm, Sublistᴰ·cons, Sublistᴰ·cons-cons, Sublistᴰ·refl, Sublistᴰ·nil-sublist}
+use mathlib.Core.Logic.{_↔_, ⊎-elim}
+use mathlib.Core.Path.{_≡_, refl, sym, ap, ap₂, _∙_}
+use native.Mathlib.Omega.{arith}
+use lib.IntN.{ℤ}
+use lib.Signed.{leZ, ltZ}
+use Rattle.arith.specs.Lists.{any, keep, subsets}
+use Rattle.arith.proofs.Tests.{clash, not-yes, or-cases}
+use Rattle.arith.proofs.Keep.{keep-append}
+use Rattle.arith.proofs.Members.{keep-in, keep-out}
+use Rattle.arith.proofs.Subsets.{keep-empty}
+use Rattle.arith.proofs.Reordering.{among-reordered}
+use Rattle.peal.specs.Policies.{Rule}
+use Rattle.peal.specs.Ranking.{ranked}
+use Rattle.peal.specs.Lines.{setsInside, smallerSets, minimal, minimalSets, singles, lines}
+use Rattle.peal.specs.SetsOfRules.{Among}
+use Rattle.peal.specs.Having.{has}
+use Rattle.peal.specs.LinesAreSingle.{Single, LinesAreSingle}
+use Rattle.peal.specs.declared.Operator.{Operator}
+use Rattle.peal.specs.declared.Operator.the-variants.{Min, Max, Sum, Mul}
+use Rattle.peal.proofs.MinimalSets.{minimal-out}
+use Rattle.peal.proofs.RankLaws.{ranked-reordered}
+
+module _ (test : Rule → Bool) where
+  one-minimal : (r : Rule) → minimal (any test) (r ∷ []) ≡ test r
+  unfolding minimal smallerSets setsInside
+  one-minimal r = go (test r)
+    where
+      go : (t : Bool) → ((t || false) && true) ≡ t
+      go true = refl
+      go false = refl
+
+  two-not : (q r : Rule) (X : List Rule) → minimal (any test) (q ∷ r ∷ X) ≡ false
+  two-not q r X =
+      not-yes (minimal (any test) (q ∷ r ∷ X)) (λ m.
+      let least = minimal-out (any test) (q ∷ r ∷ X) m .noSmaller in
+      ⊎-elim
+      (λ h. clash (or-false (test q) ∙ h) (least (q ∷ []) (Sublistᴰ·cons-cons refl (Sublistᴰ·nil-sublist (r ∷ X))) (omega arith)))
+      (λ h. clash h (least (r ∷ X) (Sublistᴰ·cons (Sublistᴰ·refl (r ∷ X))) (omega arith)))
+      (or-cases (test q) (any test (r ∷ X)) (minimal-out (any test) (q ∷ r ∷ X) m .holds)))
+
+  minimal-singles : (rules : List Rule) → minimalSets (any test) rules ≡ singles test rules
+  unfolding minimalSets setsInside singles minimal smallerSets
+  minimal-singles [] = refl
+  minimal-singles (r ∷ rules) =
+      keep-append (minimal (any test)) (map (λ Y. r ∷ Y) (subsets rules)) (subsets rules)
+      ∙ ap₂ (λ (l m : List (List Rule)). l ++ m)
+      (keep-empty (minimal (any test)) (λ Y. r ∷ Y) rules (two-not r) ∙ ap (λ (t : Bool). cond t ((r ∷ []) ∷ []) []) (one-minimal r))
+      (minimal-singles rules)
+      ∙ go (test r)
+    where
+      go : (t : Bool) → cond t ((r ∷ []) ∷ []) [] ++ map (λ r. r ∷ []) (keep test rules) ≡ map (λ r. r ∷ []) (cond t (r ∷ keep test rules) (keep test rules))
+      go true = refl
+      go false = refl
+
+  among-singles : (op : Operator) (rules X : List Rule) → Among X (singles test (ranked op rules)) ↔ Single test rules X
+  unfolding singles
+  among-singles op rules X = (there, back)
+    where
+      there : Among X (map (λ r. r ∷ []) (keep test (ranked op rules))) → Single test rules X
+      there m =
+          let k = Memᴰ·of-map (λ (r : Rule). r ∷ []) (keep test (ranked op rules)) m in
+          let q = keep-out test (ranked op rules) (k .1) in
+          record { rule = k .0; itself = sym (k .2); ofPolicy = among-reordered (Permᴰ·symm (ranked-reordered op rules)) (q .0); passes = q .1 }
+
+      back : Single test rules X → Among X (map (λ r. r ∷ []) (keep test (ranked op rules)))
+      back s =
+          Memᴰ·cast (s .itself) (Memᴰ·map (λ (r : Rule). r ∷ []) (keep-in test (among-reordered (ranked-reordered op rules) (s .ofPolicy)) (s .passes)))
+
+-- for each operator the lines are the minimal sets of the ranked rules
+pub lines-minimal : (op : Operator) (t : ℤ) (rules : List Rule) → lines op t rules ≡ minimalSets (has op t) (ranked op rules)
+unfolding lines has
+lines-minimal Sum t rules = refl
+lines-minimal Mul t rules = refl
+lines-minimal Max t rules = sym (minimal-singles (λ r. ltZ t (r .score)) (ranked Max rules))
+lines-minimal Min t rules = sym (minimal-singles (λ r. leZ (r .score) t) (ranked Min rules))
+
+pub lines-are-single : LinesAreSingle
+unfolding lines
+lines-are-single t rules X =
+    (among-singles (λ r. ltZ t (r .score)) Max rules X, among-singles (λ r. leZ (r .score) t) Min rules X)

@@ -1,0 +1,19 @@
+-- Claimed: a policy's lines, in rank order, decide the property of its present rules, in book order. Proved in proofs/InsideLaws.antt.
+use Prim.Native.Nat.{ℕ}
+use mathlib.Core.List.{List}
+use mathlib.Core.Path.{_≡_}
+use lib.IntN.{ℤ}
+use Rattle.arith.specs.Lists.{any}
+use Rattle.peal.specs.Policies.{Rule}
+use Rattle.peal.specs.Score.{presentRules}
+use Rattle.peal.specs.Lines.{lines}
+use Rattle.peal.specs.Having.{has}
+use Rattle.peal.specs.Presence.{allPresent}
+use Rattle.peal.specs.SearchFindsLines.{RulesFit}
+use Rattle.peal.specs.declared.Operator.{Operator}
+
+-- some line lies wholly inside the present rules exactly if the present rules have the property
+abbrev pub LinesDecide : Type 0
+LinesDecide =
+    (o : Operator) (t : ℤ) (rules : List Rule) (set : ℕ) → RulesFit o rules
+    → any (allPresent set) (lines o t rules) ≡ has o t (presentRules set rules)

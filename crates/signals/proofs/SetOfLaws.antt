@@ -1,0 +1,79 @@
+-- Laws of the set of some signals: which are present in it, how large it is, and when it lies inside a set or shares a signal with one.
+use Prim.Native.Nat.{ℕ, zero, suc, _+_, _/_, _%_, _^_, _<_}
+use mathlib.Core.Bool.{Bool, true, false, not, _&&_, _||_, not-or-self}
+use mathlib.Core.List.{List, [], _∷_}
+use mathlib.Core.Path.{_≡_, refl, sym, ap, _∙_}
+use native.Mathlib.Nat.{pow-suc}
+use native.Mathlib.Omega.{arith}
+use lib.Dec.{eqb, eqb·zero-suc, eqb·suc-zero, eqb·suc-suc}
+use lib.Pow.{pow-pos}
+use borrow.Author.Tests.{eqb-false, eq-eqb}
+use Rattle.arith.specs.Lists.{every, any, isIn, AllBelow, Distinct}
+use Rattle.arith.proofs.AnyEvery.{every-all, every-same, any-same}
+use Rattle.arith.proofs.Below.{every-listed, any-listed}
+use Rattle.signals.specs.Sets.{signals, present, inside, overlap, setOf}
+use Rattle.signals.proofs.SetLaws.{present-zero, present-suc}
+
+-- ---- one signal more
+
+-- the lowest digit is not one
+even : (m : ℕ) → present m 0 ≡ false → m % 2 ≡ 0
+even m h = let n = eqb-false (m % 2) 1 (sym (present-zero m) ∙ h) in omega arith
+
+present-more : (s m i : ℕ) → present m s ≡ false → present (2 ^ s + m) i ≡ (eqb s i || present m i)
+present-more zero m zero h = present-zero (1 + m) ∙ eq-eqb ((1 + m) % 2) 1 (omega (arith, even m h))
+present-more zero m (suc i) h =
+    let e : (1 + m) / 2 ≡ m / 2 = omega (arith, even m h) in
+    present-suc (1 + m) i ∙ rw (e, eqb·zero-suc i) (sym (present-suc m i))
+present-more (suc s) m zero h =
+    let e : (2 ^ suc s + m) % 2 ≡ m % 2 = omega (arith, pow-suc 2 s) in
+    present-zero (2 ^ suc s + m) ∙ rw (e, eqb·suc-zero s) (sym (present-zero m))
+present-more (suc s) m (suc i) h =
+    let e : (2 ^ suc s + m) / 2 ≡ 2 ^ s + m / 2 = omega (arith, pow-suc 2 s) in
+    present-suc (2 ^ suc s + m) i ∙ rw (e, eqb·suc-suc s i, present-suc m i) (present-more s (m / 2) i (sym (present-suc m s) ∙ h))
+
+below-more : (n s m : ℕ) → s < n → m < 2 ^ n → present m s ≡ false → 2 ^ s + m < 2 ^ n
+below-more zero s m k l h = absurd (omega arith)
+below-more (suc n) zero m k l h = omega (arith, pow-suc 2 n, even m h)
+below-more (suc n) (suc s) m k l h =
+    let i = below-more n s (m / 2) (omega arith) (omega (arith, pow-suc 2 n)) (sym (present-suc m s) ∙ h) in
+    omega (arith, pow-suc 2 n, pow-suc 2 s)
+
+-- ---- the set of some different signals
+
+none-present : (i : ℕ) → present 0 i ≡ false
+unfolding present
+none-present zero = refl
+none-present (suc i) = present-suc 0 i ∙ none-present i
+
+present-set : (ss : List ℕ) → Distinct ss → (i : ℕ) → present (setOf ss) i ≡ isIn i ss
+unfolding setOf
+present-set [] d i = none-present i
+present-set (s ∷ ss) d i = present-more s (setOf ss) i (present-set ss (d .1) s ∙ d .0) ∙ ap (λ (t : Bool). eqb s i || t) (present-set ss (d .1) i)
+
+pub set-below : (n : ℕ) (ss : List ℕ) → AllBelow n ss → Distinct ss → setOf ss < 2 ^ n
+unfolding setOf
+set-below n [] b d = pow-pos n
+set-below n (s ∷ ss) b d = below-more n s (setOf ss) (b .0) (set-below n ss (b .1) (d .1)) (present-set ss (d .1) s ∙ d .0)
+
+module _ (ss : List ℕ) (b : AllBelow 16 ss) (d : Distinct ss) (set : ℕ) where
+  -- it lies inside a set where each of the signals is present
+  pub inside-set : inside (setOf ss) set ≡ every (present set) ss
+  unfolding inside signals
+  inside-set =
+      every-same (λ i. not (present (setOf ss) i) || present set i) (λ i. not (isIn i ss) || present set i) signals
+      (λ i. ap (λ (t : Bool). not t || present set i) (present-set ss d i))
+      ∙ every-listed (present set) 16 ss b
+
+  -- it shares a signal with a set where some signal is present
+  pub overlap-set : overlap (setOf ss) set ≡ any (present set) ss
+  unfolding overlap signals
+  overlap-set =
+      any-same (λ i. present (setOf ss) i && present set i) (λ i. isIn i ss && present set i) signals
+      (λ i m. ap (λ (t : Bool). t && present set i) (present-set ss d i))
+      ∙ any-listed (present set) 16 ss b
+
+-- a set lies inside itself
+pub inside-self : (set : ℕ) → inside set set ≡ true
+unfolding inside
+inside-self set = every-all (λ s. not (present set s) || present set s) (λ s. not-or-self (present set s)) signals
