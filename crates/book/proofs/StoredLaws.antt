@@ -28,7 +28,7 @@ mapped-more f n z xs x h =
 more-length : {A : Type 0} (xs : List A) (x : A) → length xs + 1 ≡ length (xs ++ (x ∷ []))
 more-length xs x = sym (length-append xs (x ∷ []))
 
-map-set : {A B : Type 0} (f : A → B) (l : List A) (i : ℕ) (x : A) → set (map f l) i (f x) ≡ map f (set l i x)
+pub map-set : {A B : Type 0} (f : A → B) (l : List A) (i : ℕ) (x : A) → set (map f l) i (f x) ≡ map f (set l i x)
 map-set f [] i x = refl
 map-set f (y ∷ l) ℕ.zero x = refl
 map-set {B = B} f (y ∷ l) (ℕ.suc i) x = ap {B = List B} (λ m. f y ∷ m) (map-set f l i x)

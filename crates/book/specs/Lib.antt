@@ -4,11 +4,11 @@ pub mod Expressions
 pub mod Forms
 pub mod Acceptance
 pub mod Books
-pub mod Ranges
 pub mod Spelling
 pub mod LineMeaning
 pub mod Codes
 pub mod Stored
+pub mod Ranges
 pub mod Meaning
 pub mod Judged
 pub mod Taken

@@ -10,6 +10,10 @@ use Rattle.arith.specs.Trees.{treeValue}
 use Rattle.peal.specs.Policies.{Rule, Policy, MinMax, Expression, Condition, Book}
 use Rattle.peal.specs.declared.Operator.the-variants.{Mul}
 use Rattle.book.specs.Acceptance.{within, scoreInRange, mentionsBelow}
+use Rattle.book.specs.Stored.{storedPolicy, storedCondition, storedBook}
+use Rattle.book.specs.declared.stored.Policy.{Policy as StoredPolicy}
+use Rattle.book.specs.declared.stored.Condition.{Condition as StoredCondition}
+use Rattle.book.specs.declared.stored.Book.{Book as StoredBook}
 
 -- the signals of some rules
 abbrev pub signalsOf : List Rule → List ℕ
@@ -39,3 +43,16 @@ pub record BookInRange (b : Book) : Type 0 where
   pub conditionsRoom : length (b .conditions) ≤ 8
   pub policies : Each PolicyInRange (b .policies)
   pub conditions : Each (ConditionInRange (length (b .policies))) (b .conditions)
+
+-- the stored policy is that of one in range
+abbrev pub PolicyKept : StoredPolicy → Type 0
+PolicyKept p = (q : Policy) × (p ≡ storedPolicy q) × PolicyInRange q
+
+-- the stored book and condition are those of a book in range and a condition in range of it
+pub record ConditionKept (b : StoredBook) (c : StoredCondition) : Type 0 where
+  pub book : Book
+  pub condition : Condition
+  pub bookHeld : b ≡ storedBook book
+  pub conditionHeld : c ≡ storedCondition condition
+  pub bookRange : BookInRange book
+  pub conditionRange : ConditionInRange (length (book .policies)) condition

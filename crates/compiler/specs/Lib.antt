@@ -1,3 +1,4 @@
 pub mod Compiling
 pub mod Meaning
+pub mod RankOrder
 pub mod Computing

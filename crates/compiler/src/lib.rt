@@ -1,4 +1,5 @@
 // Compiling a condition of a book into lent words.
+mod ranking;
 
 // What compiling returns.
 pub enum Compiled {

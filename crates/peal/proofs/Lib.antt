@@ -1,3 +1,4 @@
+pub mod CombiningLaws
 pub mod SetOrder
 pub mod Equality
 pub mod Examples

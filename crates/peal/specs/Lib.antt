@@ -1,5 +1,6 @@
 pub mod Policies
 pub mod Score
+pub mod Combining
 pub mod Ranking
 pub mod Lines
 pub mod Translation

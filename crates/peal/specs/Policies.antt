@@ -38,6 +38,10 @@ pub record Book : Type 0 where
   pub policies : List Policy
   pub conditions : List Condition
 
+-- stands in for a rule that is not there
+unfoldable pub noRule : Rule
+noRule = record { signal = 0; score = pos 0 }
+
 -- stands in for a policy that is not there; no condition of an accepted book mentions one
 unfoldable pub emptyPolicy : Policy
 emptyPolicy = record { operator = Min; default = pos 0; rules = [] }

@@ -1,4 +1,9 @@
-// The published language: the operators of policies and the senses of conditions.
+// The published language: the operators of policies and the senses of conditions; and an operator over two scores, for the
+// crates above.
+ghost use mathlib.Core.Path.{_≡_};
+ghost use Prim.Native.Nat.{_^_, _≤_};
+ghost use lib.Signed.{mag};
+ghost use Rattle.peal.specs.Combining.{combinedOf};
 
 // How a policy combines the scores of its rules: `sum` is Peal's +, `mul` its *.
 pub enum Operator {
@@ -12,4 +17,17 @@ pub enum Operator {
 pub enum Sense {
     Above,
     AtMost,
+}
+
+// The operator over two scores; in mul the bare product.
+pub fn combined(o: Operator, v: i64, w: i64) -> i64
+    requires { ⌜ mag (combinedOf o v w) ≤ 10 ^ 16 ⌝ }
+    ensures { λ r. ⌜ r ≡ combinedOf o v w ⌝ }
+{
+    match o {
+        Operator::Min => { if v <= w { v } else { w } }
+        Operator::Max => { if v <= w { w } else { v } }
+        Operator::Sum => v + w,
+        Operator::Mul => v * w,
+    }
 }

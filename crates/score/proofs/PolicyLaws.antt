@@ -11,7 +11,7 @@ use lib.IntN.{ℤ, pos, negsuc, negℤ, natAbs, _+ℤ_, _*ℤ_, +ℤ-idr}
 use lib.ListN.{length}
 use lib.Signed.{mag, leZ, nonNeg}
 use mir.Syntax.{w64}
-use mir.Val.{Fits, SFits}
+use mir.Val.{Fits}
 use borrow.Author.Tests.{leb-true}
 use Rattle.arith.specs.Lists.{Each}
 use Rattle.arith.proofs.Signed.{mag-add}
@@ -19,10 +19,11 @@ use Rattle.arith.proofs.Tests.{and-left, and-right, clash}
 use Rattle.signals.specs.Sets.{present}
 use Rattle.peal.specs.Policies.{Rule, Policy, MinMax, smaller, larger}
 use Rattle.peal.specs.Score.{scaled, total, product, scaledProduct, ofTwo, ofAll, applied}
+use Rattle.peal.specs.Combining.{combinedOf}
 use Rattle.peal.specs.declared.Operator.{Operator}
 use Rattle.peal.specs.declared.Operator.the-variants.{Min, Max, Sum, Mul}
 use Rattle.book.specs.Acceptance.{within, scoreInRange}
-use Rattle.score.specs.PolicyScores.{combinedOf, over, presentOf, valueWith, withScore}
+use Rattle.score.specs.PolicyScores.{over, presentOf, valueWith, withScore}
 use Rattle.score.specs.declared.policies.Present.{Present}
 
 -- ---- the operator over rules, as it is defined
@@ -63,18 +64,7 @@ pub applied-mul : (r : Rule) (rs : List Rule) → over Mul r rs *ℤ pos (100 ^ 
 unfolding applied scaledProduct
 applied-mul r rs = ap (λ (z : ℤ). z *ℤ pos (100 ^ (8 - length (r ∷ rs)))) (over-mul r rs)
 
--- ---- two scores, as the code combines them
-
-pub min-is : (v w : ℤ) (t : Bool) → leZ v w ≡ t → combinedOf Min v w ≡ cond t v w
-unfolding combinedOf ofTwo
-min-is v w t e = ap (λ (b : Bool). cond b v w) e
-
-pub max-is : (v w : ℤ) (t : Bool) → leZ v w ≡ t → combinedOf Max v w ≡ cond t w v
-unfolding combinedOf ofTwo
-max-is v w t e = ap (λ (b : Bool). cond b w v) e
-
-pub small-fits : (z : ℤ) → mag z ≤ 10 ^ 16 → SFits w64 z
-small-fits z h = record { sfits = omega arith }
+-- ---- a product of scores, as the code holds it
 
 pub natural-fits : (z : ℤ) (n : ℕ) → z ≡ pos n → n ≤ 10 ^ 16 → T (nonNeg z) × Fits w64 (natAbs z)
 natural-fits z n e h = subst (λ (y : ℤ). T (nonNeg y) × Fits w64 (natAbs y)) (sym e) (tt, omega arith)

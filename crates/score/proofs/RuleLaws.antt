@@ -1,82 +1,41 @@
--- The rules of a stored policy, one by one.
+-- The present rules of a stored policy, one by one.
 use Prim.Native.Nat.{ℕ, suc, _-_, _^_, _≤_, _<_}
 use mathlib.Core.Bool.{Bool, true, false, cond}
-use mathlib.Core.List.{List, [], _∷_, map}
+use mathlib.Core.List.{List, [], _∷_}
 use mathlib.Core.Option.{Option, none, some}
 use mathlib.Core.Path.{_≡_, refl, sym, ap, subst, _∙_}
 use native.Mathlib.Omega.{arith}
 use lib.IntN.{ℤ, pos, _*ℤ_}
-use lib.ListN.{length, getD, drop, length-map, length-drop, drop-of-length-le, List·getD-map}
+use lib.ListN.{length, getD, drop, length-drop, drop-of-length-le}
 use lib.Seq.{drop-cons}
 use lib.Signed.{mag}
 use Rattle.arith.specs.Options.{if_then_}
-use Rattle.arith.proofs.Each.{each-get}
 use Rattle.arith.proofs.Keep.{keep-few, each-keep, each-drop}
-use Rattle.arith.proofs.Padding.{padded-get}
 use Rattle.signals.specs.Sets.{present}
-use Rattle.peal.specs.Policies.{Rule, Policy}
+use Rattle.peal.specs.Policies.{Rule, Policy, noRule}
 use Rattle.peal.specs.Score.{scaled, presentRules, applied, scoreOf, policyScore}
 use Rattle.peal.specs.declared.Operator.{Operator}
 use Rattle.peal.specs.declared.Operator.the-variants.{Mul}
-use Rattle.book.specs.Ranges.{signalsOf, PolicyInRange}
+use Rattle.book.specs.Ranges.{PolicyInRange}
 use Rattle.book.specs.Stored.{storedPolicy}
 use Rattle.book.specs.declared.stored.Policy.{Policy as StoredPolicy}
 use Rattle.book.proofs.RangeLaws.{rules-at-most}
-use Rattle.score.specs.PolicyScores.{PolicyKept, noRule, ruleScore, over, presentOf, withScore}
+use Rattle.book.proofs.StoredRules.{count-is, operator-is, signal-at, score-at}
+use Rattle.score.specs.PolicyScores.{ruleScore, over, presentOf, withScore}
 use Rattle.score.specs.declared.policies.Present.{Present}
 use Rattle.score.proofs.PolicyLaws.{within-mag, InScore, InRange, Room, applied-mul, mul-natural, over-small, present-more}
 
-module _ (p : StoredPolicy) (q : Policy) (e : p ≡ storedPolicy q) where
-  pub count-is : p .count ≡ length (q .rules)
-  unfolding storedPolicy
-  count-is = ap (λ (x : StoredPolicy). x .count) e
+module _ (p : StoredPolicy) (q : Policy) (e : p ≡ storedPolicy q) (i : ℕ) (h : i < p .count) (set : ℕ) (t : Bool) (told : t ≡ present set (getD (p .signals) i 0)) where
+  here : present set (getD (q .rules) i noRule .signal) ≡ t
+  here = ap (present set) (sym (signal-at p q e i h)) ∙ sym told
 
-  pub operator-is : p .operator ≡ q .operator
-  unfolding storedPolicy
-  operator-is = ap (λ (x : StoredPolicy). x .operator) e
+  pub rule-present : t ≡ true → (v : ℤ) → v ≡ getD (p .scores) i (pos 0) → some v ≡ ruleScore set (getD (q .rules) i noRule)
+  unfolding ruleScore
+  rule-present y v k = rw (here ∙ y) (ap (λ (z : ℤ). some z) (k ∙ score-at p q e i h))
 
-  pub default-is : p .default ≡ q .default
-  unfolding storedPolicy
-  default-is = ap (λ (x : StoredPolicy). x .default) e
-
-  module _ (i : ℕ) (h : i < p .count) where
-    pub signal-at : getD (p .signals) i 0 ≡ getD (q .rules) i noRule .signal
-    unfolding storedPolicy noRule
-    signal-at =
-        ap (λ (x : StoredPolicy). getD (x .signals) i 0) e
-        ∙ padded-get 16 0 (signalsOf (q .rules)) i 0 (omega (arith, count-is, length-map (q .rules) (λ (r : Rule). r .signal)))
-        ∙ List·getD-map (λ (r : Rule). r .signal) (q .rules) i noRule
-
-    score-at : getD (p .scores) i (pos 0) ≡ getD (q .rules) i noRule .score
-    unfolding storedPolicy noRule
-    score-at =
-        ap (λ (x : StoredPolicy). getD (x .scores) i (pos 0)) e
-        ∙ padded-get 16 (pos 0) (map (λ (r : Rule). r .score) (q .rules)) i (pos 0) (omega (arith, count-is, length-map (q .rules) (λ (r : Rule). r .score)))
-        ∙ List·getD-map (λ (r : Rule). r .score) (q .rules) i noRule
-
-    module _ (set : ℕ) (t : Bool) (told : t ≡ present set (getD (p .signals) i 0)) where
-      here : present set (getD (q .rules) i noRule .signal) ≡ t
-      here = ap (present set) (sym signal-at) ∙ sym told
-
-      pub rule-present : t ≡ true → (v : ℤ) → v ≡ getD (p .scores) i (pos 0) → some v ≡ ruleScore set (getD (q .rules) i noRule)
-      unfolding ruleScore
-      rule-present y v k = rw (here ∙ y) (ap (λ (z : ℤ). some z) (k ∙ score-at))
-
-      pub rule-absent : t ≡ false → none ≡ ruleScore set (getD (q .rules) i noRule)
-      unfolding ruleScore
-      rule-absent n = rw (here ∙ n)
-
--- ---- of a policy in range
-
-pub kept-count : (p : StoredPolicy) → PolicyKept p → p .count ≤ 16
-kept-count p k = omega (arith, count-is p (k .0) (k .1), rules-at-most (k .0) (k .2))
-
-pub kept-signal : (p : StoredPolicy) (i : ℕ) → PolicyKept p → i < p .count → getD (p .signals) i 0 ≤ 15
-unfolding noRule
-kept-signal p i k h =
-    let l = k .0 .rules in
-    let small = each-get (λ (s : ℕ). s < 16) (signalsOf l) i 0 (k .2 .signals) (omega (arith, count-is p (k .0) (k .1), length-map l (λ (r : Rule). r .signal))) in
-    omega (arith, signal-at p (k .0) (k .1) i h, small, List·getD-map (λ (r : Rule). r .signal) l i noRule)
+  pub rule-absent : t ≡ false → none ≡ ruleScore set (getD (q .rules) i noRule)
+  unfolding ruleScore
+  rule-absent n = rw (here ∙ n)
 
 -- ---- the present rules from rule i on
 

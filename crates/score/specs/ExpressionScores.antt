@@ -5,12 +5,8 @@ use mathlib.Core.Path.{_≡_}
 use lib.IntN.{ℤ, pos}
 use lib.ListN.{length, getD, drop}
 use Rattle.arith.specs.Trees.{postfix, LeavesOne, run}
-use Rattle.peal.specs.Policies.{Policy, Expression, Condition, Book, policyAt}
+use Rattle.peal.specs.Policies.{Policy, Expression, policyAt}
 use Rattle.peal.specs.Score.{ofTwo, policyScore, score}
-use Rattle.book.specs.Ranges.{BookInRange, ConditionInRange}
-use Rattle.book.specs.Stored.{storedCondition, storedBook}
-use Rattle.book.specs.declared.stored.Condition.{Condition as StoredCondition}
-use Rattle.book.specs.declared.stored.Book.{Book as StoredBook}
 use Rattle.score.specs.Pairs.{Is}
 use Rattle.score.specs.declared.exact.Exact.{Exact}
 use Rattle.score.specs.declared.expressions.Waiting.{Waiting}
@@ -27,15 +23,6 @@ HeldBelow cells h (v ∷ vs) = (0 < h) × Is (getD cells (h - 1) noScore) v × H
 -- sixteen cells, of which those below the height are these scores
 abbrev pub Holds : Waiting → List ℤ → Type 0
 Holds s vs = (length (s .scores) ≡ 16) × HeldBelow (s .scores) (s .height) vs
-
--- the stored book and condition are those of a book in range and a condition in range of it
-pub record ConditionKept (b : StoredBook) (c : StoredCondition) : Type 0 where
-  pub book : Book
-  pub condition : Condition
-  pub bookHeld : b ≡ storedBook book
-  pub conditionHeld : c ≡ storedCondition condition
-  pub bookRange : BookInRange book
-  pub conditionRange : ConditionInRange (length (book .policies)) condition
 
 -- before node i of an expression: what waits is enough, and leads to the score
 pub record Underway (ps : List Policy) (set : ℕ) (e : Expression) (i : ℕ) (s : Waiting) : Type 0 where

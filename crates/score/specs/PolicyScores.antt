@@ -2,29 +2,16 @@
 use Prim.Native.Nat.{ℕ, zero, suc}
 use mathlib.Core.List.{List, [], _∷_}
 use mathlib.Core.Option.{Option, none, some}
-use mathlib.Core.Path.{_≡_}
-use lib.IntN.{ℤ, pos, _+ℤ_, _*ℤ_}
+use lib.IntN.{ℤ}
 use lib.ListN.{length}
 use Rattle.arith.specs.Options.{if_then_}
 use Rattle.signals.specs.Sets.{present}
-use Rattle.peal.specs.Policies.{Rule, Policy, smaller, larger}
-use Rattle.peal.specs.Score.{ofTwo}
+use Rattle.peal.specs.Policies.{Rule, Policy}
+use Rattle.peal.specs.Combining.{combinedOf}
 use Rattle.peal.specs.declared.Operator.{Operator}
-use Rattle.peal.specs.declared.Operator.the-variants.{Min, Max, Sum, Mul}
-use Rattle.book.specs.Ranges.{PolicyInRange}
-use Rattle.book.specs.Stored.{storedPolicy}
-use Rattle.book.specs.declared.stored.Policy.{Policy as StoredPolicy}
 use Rattle.score.specs.declared.policies.Scored.{Scored}
 use Rattle.score.specs.declared.policies.Scored.the-variants.{Present as Counted, Absent}
 use Rattle.score.specs.declared.policies.Present.{Present}
-
--- the stored policy is that of one in range
-abbrev pub PolicyKept : StoredPolicy → Type 0
-PolicyKept p = (q : Policy) × (p ≡ storedPolicy q) × PolicyInRange q
-
--- stands in for a rule that is not there
-unfoldable pub noRule : Rule
-noRule = record { signal = 0; score = pos 0 }
 
 -- what a rule adds on a signal set
 unfoldable pub ruleScore : ℕ → Rule → Option ℤ
@@ -33,13 +20,6 @@ ruleScore set r = if present set (r .signal) then some (r .score)
 abbrev pub scoredMeaning : Scored → Option ℤ
 scoredMeaning (Counted v) = some v
 scoredMeaning Absent = none
-
--- the operator over two scores; in mul the bare product
-unfoldable pub combinedOf : Operator → ℤ → ℤ → ℤ
-combinedOf Min v w = ofTwo smaller v w
-combinedOf Max v w = ofTwo larger v w
-combinedOf Sum v w = v +ℤ w
-combinedOf Mul v w = v *ℤ w
 
 -- the operator over the scores of a rule and more
 unfoldable pub over : Operator → Rule → List Rule → ℤ

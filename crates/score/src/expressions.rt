@@ -9,9 +9,10 @@ ghost use Prim.Native.Nat.{_≤_, _<_};
 ghost use lib.IntN.{ℤ};
 ghost use Rattle.peal.specs.Policies.{Condition as PealCondition, Book as PealBook};
 ghost use Rattle.peal.specs.Score.{ofTwo, score};
+ghost use Rattle.book.specs.Ranges.{ConditionKept};
 ghost use Rattle.book.specs.Stored.{storedCondition, storedBook};
 ghost use Rattle.score.specs.Pairs.{Is, choiceMeaning};
-ghost use Rattle.score.specs.ExpressionScores.{Holds, ConditionKept};
+ghost use Rattle.score.specs.ExpressionScores.{Holds};
 
 // Scores that wait for a join: the first `height` cells, the last one joined first.
 pub struct Waiting {

@@ -9,10 +9,10 @@ use expressions::expression_score;
 ghost use mathlib.Core.Path.{_≡_};
 ghost use Rattle.peal.specs.Policies.{Condition as PealCondition, Book as PealBook};
 ghost use Rattle.peal.specs.Score.{decision};
+ghost use Rattle.book.specs.Ranges.{ConditionKept};
 ghost use Rattle.book.specs.Stored.{storedCondition, storedBook};
 ghost use Rattle.score.specs.Decisions.{scoredAnswer};
 ghost use Rattle.score.specs.Meaning.{scoreMeaning};
-ghost use Rattle.score.specs.ExpressionScores.{ConditionKept};
 
 // The logger's answer.
 pub enum Decision {

@@ -6,11 +6,12 @@ ghost use mathlib.Core.Path.{_≡_};
 ghost use Prim.Native.Nat.{_^_, _≤_, _<_};
 ghost use lib.ListN.{getD};
 ghost use lib.Signed.{mag};
-ghost use Rattle.peal.specs.Policies.{Policy as PealPolicy};
+ghost use Rattle.peal.specs.Policies.{Policy as PealPolicy, noRule};
 ghost use Rattle.peal.specs.Score.{presentRules, policyScore};
+ghost use Rattle.book.specs.Ranges.{PolicyKept};
 ghost use Rattle.book.specs.Stored.{storedPolicy};
 ghost use Rattle.score.specs.Pairs.{Is};
-ghost use Rattle.score.specs.PolicyScores.{PolicyKept, combinedOf, noRule, ruleScore, scoredMeaning, presentOf, withScore};
+ghost use Rattle.score.specs.PolicyScores.{ruleScore, scoredMeaning, presentOf, withScore};
 
 // What a rule adds on a signal set.
 pub enum Scored {
@@ -32,19 +33,6 @@ fn rule_score(p: book::Policy, i: usize, set: u16) -> Scored
     }
 }
 
-// The operator over two scores; in mul the bare product.
-fn combined(o: peal::Operator, v: i64, w: i64) -> i64
-    requires { ⌜ mag (combinedOf o v w) ≤ 10 ^ 16 ⌝ }
-    ensures { λ r. ⌜ r ≡ combinedOf o v w ⌝ }
-{
-    match o {
-        peal::Operator::Min => { if v <= w { v } else { w } }
-        peal::Operator::Max => { if v <= w { w } else { v } }
-        peal::Operator::Sum => v + w,
-        peal::Operator::Mul => v * w,
-    }
-}
-
 // The rules present so far: how many, and the operator over their scores; the default while there are none.
 pub struct Present {
     pub count: usize,
@@ -63,7 +51,7 @@ fn with_score(o: peal::Operator, so: Present, v: i64) -> Present
         let w = so.value;
         Present {
             count: n + 1,
-            value: combined(o, v, w),
+            value: peal::combined(o, v, w),
         }
     }
 }

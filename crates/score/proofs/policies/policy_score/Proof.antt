@@ -11,7 +11,8 @@ use mir.ValLaws.{toZ-ofZ}
 use Rattle.peal.specs.Score.{scaled}
 use Rattle.score.specs.Pairs.{Is}
 use Rattle.score.proofs.PolicyLaws.{applied-min, applied-max, applied-sum, natural-fits}
-use Rattle.score.proofs.RuleLaws.{operator-is, none-present, whole-score, product-score, product-natural, product-few}
+use Rattle.book.proofs.StoredRules.{operator-is}
+use Rattle.score.proofs.RuleLaws.{none-present, whole-score, product-score, product-natural, product-few}
 use Rattle.score.proofs.policies.policy_score.Statement.{statement}
 use Rattle.score.proofs.policies.policy_score.Tie as tie
 

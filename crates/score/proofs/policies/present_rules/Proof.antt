@@ -14,7 +14,8 @@ use Rattle.peal.specs.Score.{presentRules}
 use Rattle.book.specs.Stored.{storedPolicy}
 use Rattle.score.specs.PolicyScores.{scoredMeaning, presentOf, withScore}
 use Rattle.score.specs.declared.policies.Present.{Present}
-use Rattle.score.proofs.RuleLaws.{count-is, default-is, none-behind, turn-present, turn-absent, present-value-small, present-count-small}
+use Rattle.book.proofs.StoredRules.{count-is, default-is}
+use Rattle.score.proofs.RuleLaws.{none-behind, turn-present, turn-absent, present-value-small, present-count-small}
 use Rattle.score.proofs.policies.present_rules.Statement.{statement}
 use Rattle.score.proofs.policies.present_rules.Tie as tie
 

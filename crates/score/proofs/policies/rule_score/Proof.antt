@@ -5,7 +5,8 @@ use lib.ListN.{getD}
 use mir.Syntax.{w32}
 use mir.Val.{SFits}
 use Rattle.arith.proofs.Signed.{wide-fits, wide-back}
-use Rattle.score.proofs.RuleLaws.{kept-count, kept-signal, rule-present, rule-absent}
+use Rattle.book.proofs.StoredRules.{kept-count, kept-signal}
+use Rattle.score.proofs.RuleLaws.{rule-present, rule-absent}
 use Rattle.score.proofs.policies.rule_score.Statement.{statement}
 use Rattle.score.proofs.policies.rule_score.Tie as tie
 

@@ -8,7 +8,7 @@ use lib.Signed.{mag}
 use mir.Syntax.{w64}
 use mir.Val.{SFits, toZ, ofZ}
 use mir.ValLaws.{toZ-ofZ}
-use Rattle.score.specs.PolicyScores.{combinedOf}
+use Rattle.peal.specs.Combining.{combinedOf}
 use Rattle.score.proofs.PolicyLaws.{with-first, with-another, another-small}
 use Rattle.score.proofs.policies.with_score.Statement.{statement}
 use Rattle.score.proofs.policies.with_score.Tie as tie

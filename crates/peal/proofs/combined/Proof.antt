@@ -1,4 +1,4 @@
--- `score::policies::combined`: an operator at a time.
+-- `peal::combined`: an operator at a time.
 use Prim.Native.Nat.{_^_, _≤_}
 use mathlib.Core.Bool.{true, false}
 use mathlib.Core.Path.{_≡_, sym, ap, subst, _∙_}
@@ -9,11 +9,11 @@ use mir.Syntax.{w64}
 use mir.Val.{SFits, toZ, ofZ}
 use mir.ValLaws.{toZ-ofZ}
 use Rattle.arith.proofs.Signed.{tested-le, both-fit, both-back}
 use Rattle.peal.specs.declared.Operator.{Operator}
-use Rattle.score.specs.PolicyScores.{combinedOf}
-use Rattle.score.proofs.PolicyLaws.{min-is, max-is, small-fits}
-use Rattle.score.proofs.policies.combined.Statement.{statement}
-use Rattle.score.proofs.policies.combined.Tie as tie
+use Rattle.peal.specs.Combining.{combinedOf}
+use Rattle.peal.proofs.CombiningLaws.{min-is, max-is, small-fits}
+use Rattle.peal.proofs.combined.Statement.{statement}
+use Rattle.peal.proofs.combined.Tie as tie
 
 -- the arguments as they are read back, and the operator as it was matched
 back-v : (s : tie.Start) → toZ w64 (ofZ w64 (s .args .v)) ≡ s .args .v

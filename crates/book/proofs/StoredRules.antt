@@ -1,0 +1,54 @@
+-- The rules of a stored policy, for the crates above.
+use Prim.Native.Nat.{ℕ, _≤_, _<_}
+use mathlib.Core.List.{map}
+use mathlib.Core.Path.{_≡_, ap, _∙_}
+use native.Mathlib.Omega.{arith}
+use lib.IntN.{pos}
+use lib.ListN.{length, getD, length-map, List·getD-map}
+use Rattle.arith.proofs.Each.{each-get}
+use Rattle.arith.proofs.Padding.{padded-get}
+use Rattle.peal.specs.Policies.{Rule, Policy, noRule}
+use Rattle.book.specs.Ranges.{signalsOf, PolicyKept}
+use Rattle.book.specs.Stored.{storedPolicy}
+use Rattle.book.specs.declared.stored.Policy.{Policy as StoredPolicy}
+use Rattle.book.proofs.RangeLaws.{rules-at-most}
+
+module _ (p : StoredPolicy) (q : Policy) (e : p ≡ storedPolicy q) where
+  pub count-is : p .count ≡ length (q .rules)
+  unfolding storedPolicy
+  count-is = ap (λ (x : StoredPolicy). x .count) e
+
+  pub operator-is : p .operator ≡ q .operator
+  unfolding storedPolicy
+  operator-is = ap (λ (x : StoredPolicy). x .operator) e
+
+  pub default-is : p .default ≡ q .default
+  unfolding storedPolicy
+  default-is = ap (λ (x : StoredPolicy). x .default) e
+
+  module _ (i : ℕ) (h : i < p .count) where
+    pub signal-at : getD (p .signals) i 0 ≡ getD (q .rules) i noRule .signal
+    unfolding storedPolicy noRule
+    signal-at =
+        ap (λ (x : StoredPolicy). getD (x .signals) i 0) e
+        ∙ padded-get 16 0 (signalsOf (q .rules)) i 0 (omega (arith, count-is, length-map (q .rules) (λ (r : Rule). r .signal)))
+        ∙ List·getD-map (λ (r : Rule). r .signal) (q .rules) i noRule
+
+    pub score-at : getD (p .scores) i (pos 0) ≡ getD (q .rules) i noRule .score
+    unfolding storedPolicy noRule
+    score-at =
+        ap (λ (x : StoredPolicy). getD (x .scores) i (pos 0)) e
+        ∙ padded-get 16 (pos 0) (map (λ (r : Rule). r .score) (q .rules)) i (pos 0) (omega (arith, count-is, length-map (q .rules) (λ (r : Rule). r .score)))
+        ∙ List·getD-map (λ (r : Rule). r .score) (q .rules) i noRule
+
+-- ---- of a policy in range
+
+pub kept-count : (p : StoredPolicy) → PolicyKept p → p .count ≤ 16
+kept-count p k = omega (arith, count-is p (k .0) (k .1), rules-at-most (k .0) (k .2))
+
+pub kept-signal : (p : StoredPolicy) (i : ℕ) → PolicyKept p → i < p .count → getD (p .signals) i 0 ≤ 15
+unfolding noRule
+kept-signal p i k h =
+    let l = k .0 .rules in
+    let small = each-get (λ (s : ℕ). s < 16) (signalsOf l) i 0 (k .2 .signals) (omega (arith, count-is p (k .0) (k .1), length-map l (λ (r : Rule). r .signal))) in
+    omega (arith, signal-at p (k .0) (k .1) i h, small, List·getD-map (λ (r : Rule). r .signal) l i noRule)
