@@ -82,6 +82,12 @@ ltZ-leZ-trans a b c h k = lt-ltZ a c (omega (arith, ltZ-lt a b h, leZ-le b c k))
 pub not-less : (a b : ℤ) → ltZ a b ≡ false → leZ b a ≡ true
 not-less a b h = not-false (leZ b a) (sym (ltZ-not a b) ∙ h)
 
+pub leZ-antisym : (a b : ℤ) → leZ a b ≡ true → leZ b a ≡ true → a ≡ b
+leZ-antisym (pos a) (pos b) h k = ap pos (omega (arith, leb-true a b h, leb-true b a k))
+leZ-antisym (pos a) (negsuc b) h k = clash h refl
+leZ-antisym (negsuc a) (pos b) h k = clash k refl
+leZ-antisym (negsuc a) (negsuc b) h k = ap negsuc (omega (arith, leb-true b a h, leb-true a b k))
+
 pub leZ-total : (a b : ℤ) → leZ a b ≡ false → leZ b a ≡ true
 leZ-total a b h = ltZ-leZ b a (ltZ-not b a ∙ ap not h)
 

@@ -1,11 +1,9 @@
 -- Sums and products of whole numbers do not see the order of their parts.
 use Prim.Native.Nat.{ℕ, zero, suc}
-use mathlib.Core.Bool.{true}
-use mathlib.Core.Path.{_≡_, refl, sym, ap, _∙_}
+use mathlib.Core.Path.{_≡_, sym, ap, _∙_}
+use native.Mathlib.Nat.{mul-one}
 use lib.IntN.{ℤ, pos, negsuc, negℤ, negℤ-negℤ, _+ℤ_, +ℤ-assoc, +ℤ-comm, _*ℤ_, *ℤ-comm, *ℤ-zero, *ℤ-negsuc}
-use lib.Signed.{leZ}
-use Rattle.arith.proofs.Order.{above, scale-scale}
-use Rattle.arith.proofs.Tests.{clash}
+use Rattle.arith.proofs.Order.{scale-scale}
 
 pub +ℤ-swap : (a b c : ℤ) → a +ℤ (b +ℤ c) ≡ b +ℤ (a +ℤ c)
 +ℤ-swap a b c = sym (+ℤ-assoc a b c) ∙ ap (λ (x : ℤ). x +ℤ c) (+ℤ-comm a b) ∙ +ℤ-assoc b a c
@@ -22,7 +20,7 @@ pos-assoc : (a : ℤ) (m : ℕ) (c : ℤ) → a *ℤ pos m *ℤ c ≡ a *ℤ (po
 pos-assoc a m (pos n) = scale-scale a m n
 pos-assoc a m (negsuc n) = *ℤ-negsuc (a *ℤ pos m) n ∙ ap negℤ (scale-scale a m (suc n)) ∙ sym (times-neg a (pos m *ℤ pos (suc n)))
 
-times-assoc : (a b c : ℤ) → a *ℤ b *ℤ c ≡ a *ℤ (b *ℤ c)
+pub times-assoc : (a b c : ℤ) → a *ℤ b *ℤ c ≡ a *ℤ (b *ℤ c)
 times-assoc a (pos m) c = pos-assoc a m c
 times-assoc a (negsuc m) c =
     ap (λ (x : ℤ). x *ℤ c) (*ℤ-negsuc a m)
@@ -34,7 +32,6 @@ times-assoc a (negsuc m) c =
 pub *ℤ-swap : (a b c : ℤ) → a *ℤ (b *ℤ c) ≡ b *ℤ (a *ℤ c)
 *ℤ-swap a b c = sym (times-assoc a b c) ∙ ap (λ (x : ℤ). x *ℤ c) (*ℤ-comm a b) ∙ times-assoc b a c
 
--- what is not negative is a natural number
-pub not-negative : (z : ℤ) → leZ (pos 0) z ≡ true → z ≡ pos (above z)
-not-negative (pos n) h = refl
-not-negative (negsuc n) h = clash h refl
+pub times-one : (z : ℤ) → z *ℤ pos 1 ≡ z
+times-one (pos n) = ap pos (mul-one n)
+times-one (negsuc n) = ap (λ (k : ℕ). negℤ (pos k)) (mul-one (suc n))

@@ -1,5 +1,6 @@
 // Compiling a condition of a book into lent words.
 mod ranking;
+mod writing;
 
 // What compiling returns.
 pub enum Compiled {

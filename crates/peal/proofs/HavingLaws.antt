@@ -3,15 +3,17 @@ use Prim.Native.Nat.{ℕ, suc, _*_, _-_, _^_, _≤_}
 use mathlib.Core.Bool.{true, false}
 use mathlib.Core.List.{List, [], _∷_, List·Permᴰ}
 use mathlib.Core.Path.{_≡_, refl, sym, ap, ap₂, subst, _∙_}
-use native.Mathlib.Nat.{pow-succ'}
+use native.Mathlib.Nat.{mul-le-mul, pow-suc, pow-succ'}
 use native.Mathlib.Omega.{arith}
-use lib.IntN.{ℤ, pos, _+ℤ_, _*ℤ_, *ℤ-comm, +ℤ-idl}
+use lib.Dec.{leb}
+use lib.IntN.{ℤ, pos, negsuc, _+ℤ_, _*ℤ_, *ℤ-comm, +ℤ-idl}
 use lib.ListN.{length}
 use lib.Signed.{leZ, ltZ}
+use borrow.Author.Tests.{leb-true}
 use Rattle.arith.specs.Lists.{any, Each}
-use Rattle.arith.proofs.Order.{above, leZ-trans, ltZ-leZ-trans, not-less, leZ-plus, leZ-times, scale-scale}
-use Rattle.arith.proofs.Whole.{+ℤ-swap, *ℤ-swap, not-negative}
-use Rattle.arith.proofs.Tests.{and-left, and-right, or-right, or-then}
+use Rattle.arith.proofs.Order.{leZ-trans, ltZ-leZ-trans, not-less, leZ-plus, leZ-times, scale-scale}
+use Rattle.arith.proofs.Whole.{+ℤ-swap, *ℤ-swap}
+use Rattle.arith.proofs.Tests.{clash, and-right, or-right, or-then}
 use Rattle.arith.proofs.Reordering.{same-reordered, length-reordered, any-reordered}
 use Rattle.peal.specs.Policies.{Rule}
 use Rattle.peal.specs.Score.{scaled, total, product, scaledProduct}
@@ -44,13 +46,19 @@ has-reordered Min t d = any-reordered (λ r. leZ (r .score) t) d
 
 -- ---- a rule more, and a rule of higher rank, for each operator
 
--- the product of scores that are not negative is a natural number
-product-natural : (X : List Rule) → Each (λ (r : Rule). scoreFits Mul (r .score) ≡ true) X → (p : ℕ) × (product X ≡ pos p)
-unfolding product scoreFits
-product-natural [] h = (1, refl)
+unit-score : (v : ℤ) → scoreFits Mul v ≡ true → (n : ℕ) × (v ≡ pos n) × (n ≤ 100)
+unfolding scoreFits
+unit-score (pos n) h = (n, refl, leb-true n 100 (and-right (leb 0 n) (leb n 100) h))
+unit-score (negsuc n) h = clash h refl
+
+-- the product of scores from 0 to 100 is a natural number, at most 100 to their number
+pub product-natural : (X : List Rule) → Each (λ (r : Rule). scoreFits Mul (r .score) ≡ true) X → (p : ℕ) × (product X ≡ pos p) × (p ≤ 100 ^ length X)
+unfolding product
+product-natural [] h = (1, refl, omega arith)
 product-natural (r ∷ X) h =
+    let s = unit-score (r .score) (h .0) in
     let i = product-natural X (h .1) in
-    (above (r .score) * i .0, rw (i .1, not-negative (r .score) (and-left (leZ (pos 0) (r .score)) (leZ (r .score) (pos 100)) (h .0))))
+    (s .0 * i .0, ap (λ (z : ℤ). z *ℤ product X) (s .1) ∙ ap (λ (z : ℤ). pos (s .0) *ℤ z) (i .1), omega (arith, pow-suc 100 (length X), mul-le-mul (s .2) (i .2)))
 
 -- a product rises with one of its scores
 product-rises : (v w : ℤ) (X : List Rule) (n : ℕ) → Each (λ (r : Rule). scoreFits Mul (r .score) ≡ true) X → leZ v w ≡ true

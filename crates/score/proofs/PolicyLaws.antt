@@ -4,7 +4,7 @@ use mathlib.Core.Bool.{Bool, true, false, cond}
 use mathlib.Core.List.{List, [], _∷_}
 use mathlib.Core.Path.{_≡_, refl, sym, ap, subst, _∙_}
 use lib.Dec.{T, leb}
-use native.Mathlib.Nat.{le-trans, mul-one, mul-le-mul, pow-suc, pow-le-pow-right}
+use native.Mathlib.Nat.{le-trans, pow-le-pow-right}
 use native.Mathlib.Numerals.{add-one}
 use native.Mathlib.Omega.{arith}
 use lib.IntN.{ℤ, pos, negsuc, negℤ, natAbs, _+ℤ_, _*ℤ_, +ℤ-idr}
@@ -16,12 +16,15 @@ use borrow.Author.Tests.{leb-true}
 use Rattle.arith.specs.Lists.{Each}
 use Rattle.arith.proofs.Signed.{mag-add}
 use Rattle.arith.proofs.Tests.{and-left, and-right, clash}
+use Rattle.arith.proofs.Whole.{times-one}
 use Rattle.signals.specs.Sets.{present}
 use Rattle.peal.specs.Policies.{Rule, Policy, MinMax, smaller, larger}
 use Rattle.peal.specs.Score.{scaled, total, product, scaledProduct, ofTwo, ofAll, applied}
 use Rattle.peal.specs.Combining.{combinedOf}
 use Rattle.peal.specs.declared.Operator.{Operator}
 use Rattle.peal.specs.declared.Operator.the-variants.{Min, Max, Sum, Mul}
+use Rattle.peal.specs.SearchFindsLines.{scoreFits}
+use Rattle.peal.proofs.HavingLaws.{product-natural}
 use Rattle.book.specs.Acceptance.{within, scoreInRange}
 use Rattle.score.specs.PolicyScores.{over, presentOf, valueWith, withScore}
 use Rattle.score.specs.declared.policies.Present.{Present}
@@ -37,10 +40,6 @@ over-sum : (r : Rule) (rs : List Rule) → over Sum r rs ≡ total (r ∷ rs)
 unfolding over combinedOf total
 over-sum r [] = sym (+ℤ-idr (r .score))
 over-sum r (q ∷ rs) = ap (λ (z : ℤ). r .score +ℤ z) (over-sum q rs)
-
-times-one : (z : ℤ) → z *ℤ pos 1 ≡ z
-times-one (pos n) = ap pos (mul-one n)
-times-one (negsuc n) = ap (λ (k : ℕ). negℤ (pos k)) (mul-one (suc n))
 
 over-mul : (r : Rule) (rs : List Rule) → over Mul r rs ≡ product (r ∷ rs)
 unfolding over combinedOf product
@@ -102,12 +101,6 @@ within-mag lo hi (pos z) h n l k = omega (arith, leb-true z hi (and-right (leZ (
 within-mag zero hi (negsuc z) h n l k = clash h refl
 within-mag (suc lo) hi (negsuc z) h n l k = omega (arith, leb-true z lo (and-left (leb z lo) true h))
 
--- a score in mul is a natural
-mul-score : (v : ℤ) → scoreInRange Mul v ≡ true → (n : ℕ) × (v ≡ pos n) × (n ≤ 100)
-unfolding scoreInRange within
-mul-score (pos n) h = (n, refl, leb-true n 100 (and-right (leb 0 n) (leb n 100) h))
-mul-score (negsuc n) h = clash h refl
-
 score-mag : (o : Operator) (v : ℤ) → scoreInRange o v ≡ true → mag v ≤ 10000
 unfolding scoreInRange
 score-mag Min v h = within-mag 10000 10000 v h 10000 (omega arith) (omega arith)
@@ -138,12 +131,8 @@ bound Sum n = 10001 * n
 bound Mul n = 100 ^ n
 
 pub mul-natural : (r : Rule) (rs : List Rule) → InRange Mul (r ∷ rs) → (n : ℕ) × (over Mul r rs ≡ pos n) × (n ≤ 100 ^ length (r ∷ rs))
-unfolding over combinedOf
-mul-natural r [] h = let s = mul-score (r .score) (h .0) in (s .0, s .1, omega (arith, s .2))
-mul-natural r (q ∷ rs) h =
-    let s = mul-score (r .score) (h .0) in
-    let t = mul-natural q rs (h .1) in
-    (s .0 * t .0, ap (λ (z : ℤ). z *ℤ over Mul q rs) (s .1) ∙ ap (λ (z : ℤ). pos (s .0) *ℤ z) (t .1), omega (arith, pow-suc 100 (length (q ∷ rs)), mul-le-mul (s .2) (t .2)))
+unfolding scoreInRange within scoreFits
+mul-natural r rs h = let p = product-natural (r ∷ rs) h in (p .0, over-mul r rs ∙ p .1, p .2)
 
 over-mag : (o : Operator) (r : Rule) (rs : List Rule) → InRange o (r ∷ rs) → mag (over o r rs) ≤ bound o (length (r ∷ rs))
 unfolding over combinedOf
