@@ -1,4 +1,5 @@
 // The acceptance of a line that has a form, in the order 3 to 6.
+// For this crate only: no other can name these functions, and each call is proved to meet its condition.
 use crate::Reason;
 use crate::expressions::Parse;
 use crate::stored::Policy;

@@ -1,4 +1,5 @@
 // Expressions of a book, read into codes.
+// For this crate only: no other can name these functions, and each call is proved to meet its condition.
 use crate::numbers::NaturalRead;
 use crate::numbers::read_natural;
 use crate::text::begins;

@@ -1,4 +1,5 @@
 // The read book, by value: policies and conditions in book order. Cells beyond the counts are zeros.
+// For this crate only: no other can name these functions, and each call is proved to meet its condition.
 ghost use mathlib.Core.List.{[], _∷_, _++_};
 ghost use mathlib.Core.Path.{_≡_};
 ghost use Prim.Native.Nat.{_+_, _<_};

@@ -1,4 +1,5 @@
 // Lines taken into the book so far.
+// For this crate only: no other can name these functions, and each call is proved to meet its condition.
 use crate::Reason;
 use crate::acceptance::Verdict;
 use crate::acceptance::judge_condition;

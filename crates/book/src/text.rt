@@ -1,4 +1,5 @@
 // Bytes of a line or a book: where a mark stands next, and which word stands at a place.
+// For this crate only: no other can name these functions, and each call is proved to meet its condition.
 ghost use mathlib.Core.Path.{_≡_};
 ghost use Prim.Native.Nat.{_+_, _≤_};
 ghost use mathlib.Core.List.{[], _∷_};

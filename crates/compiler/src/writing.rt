@@ -1,4 +1,5 @@
 // Records written into the lent words, where there is room for them.
+// For this crate only: no other can name these functions, and each call is proved to meet its condition.
 ghost use mathlib.Core.Bool.{cond};
 ghost use mathlib.Core.Path.{_≡_};
 ghost use lib.Dec.{eqb};

@@ -19,7 +19,7 @@ pub enum Sense {
     AtMost,
 }
 
-// The operator over two scores; in mul the bare product.
+// The operator over two scores; in mul the bare product. For the crates above only, which have scores in range: the result fits.
 pub fn combined(o: Operator, v: i64, w: i64) -> i64
     requires { ⌜ mag (combinedOf o v w) ≤ 10 ^ 16 ⌝ }
     ensures { λ r. ⌜ r ≡ combinedOf o v w ⌝ }
