@@ -3,12 +3,10 @@ use Prim.Native.Nat.{ℕ}
 use mathlib.Core.Bool.{Bool, true, false, cond}
 use mathlib.Core.List.{List, [], _∷_}
 use mathlib.Core.Path.{_≡_, refl, sym, ap, _∙_}
-use lib.IntN.{ℤ, pos}
-use lib.Signed.{leZ}
+use lib.IntN.{ℤ}
 use Rattle.arith.specs.Lists.{any}
 use Rattle.arith.proofs.AnyEvery.{any-kept}
-use Rattle.arith.proofs.Members.{each-in, each-out}
-use Rattle.arith.proofs.Tests.{and-left, clash}
+use Rattle.arith.proofs.Tests.{clash}
 use Rattle.signals.specs.Sets.{present, overlap}
 use Rattle.rod.specs.Reading.{someLine, policyValue}
 use Rattle.peal.specs.Policies.{Rule, Policy}
@@ -17,16 +15,14 @@ use Rattle.peal.specs.Translation.{quiet, turned, maskOf, listed}
 use Rattle.peal.specs.Having.{has}
 use Rattle.peal.specs.Presence.{somePresent}
 use Rattle.peal.specs.MeetingIsHaving.{turnedOver}
-use Rattle.peal.specs.SearchFindsLines.{scoreFits, RulesFit}
+use Rattle.peal.specs.SearchFindsLines.{RulesFit}
 use Rattle.peal.specs.MasksDecide.{SignalsFit}
-use Rattle.peal.specs.declared.Operator.{Operator}
-use Rattle.peal.specs.declared.Operator.the-variants.{Min, Max, Sum, Mul}
 use Rattle.peal.specs.declared.Sense.{Sense}
 use Rattle.peal.proofs.InsideLaws.{lines-decide}
 use Rattle.peal.proofs.MaskLaws.{masks-decide, masks-inside}
 use Rattle.peal.proofs.MeetingLaws.{meeting-is-having, quiet-is-meeting}
-use Rattle.book.specs.Acceptance.{within, scoreInRange}
 use Rattle.book.specs.Ranges.{PolicyInRange}
+use Rattle.book.proofs.ScoreSizes.{range-fits}
 use Rattle.agreement.specs.PolicyAgreement.{LinesAgreement, QuietAgreement, PolicyAgreement}
 
 -- ---- what document 01's ranges give
@@ -34,18 +30,8 @@ use Rattle.agreement.specs.PolicyAgreement.{LinesAgreement, QuietAgreeme
 pub signals-fit : (p : Policy) → PolicyInRange p → SignalsFit (p .rules)
 signals-fit p h = record { below = h .signals; different = h .distinct }
 
-score-fits : (o : Operator) (v : ℤ) → scoreInRange o v ≡ true → scoreFits o v ≡ true
-unfolding scoreInRange scoreFits within
-score-fits Sum v h = and-left (leZ (pos 0) v) (leZ v (pos 10000)) h
-score-fits Mul v h = h
-score-fits Max v h = refl
-score-fits Min v h = refl
-
 rules-fit : (p : Policy) → PolicyInRange p → RulesFit (p .operator) (p .rules)
-rules-fit p h =
-    let Ranged : Rule → Type 0 = λ r. scoreInRange (p .operator) (r .score) ≡ true in
-    let Fits : Rule → Type 0 = λ r. scoreFits (p .operator) (r .score) ≡ true in
-    record { scores = each-in Fits (p .rules) (λ r m. score-fits (p .operator) (r .score) (each-out Ranged (h .scores) m)); room = h .room }
+rules-fit p h = range-fits (p .operator) (p .rules) (h .scores) (h .room)
 
 -- ---- the two halves
 

@@ -86,7 +86,7 @@ not-below-zero : (a m : ℕ) → 0 < m → leZ (pos a) (negℤ (pos m)) ≡ fals
 not-below-zero a zero h = absurd (omega arith)
 not-below-zero a (suc m) h = refl
 
-product-worth : (X : List Rule) → product X ≡ worth Mul X
+pub product-worth : (X : List Rule) → product X ≡ worth Mul X
 unfolding product worth start combinedOf
 product-worth [] = refl
 product-worth (r ∷ X) = ap (λ (z : ℤ). r .score *ℤ z) (product-worth X)

@@ -1,5 +1,7 @@
 // Compiling a condition of a book into lent words.
+mod planning;
 mod ranking;
+mod searching;
 mod writing;
 
 // What compiling returns.

@@ -1,23 +1,18 @@
 -- The score of a policy, its rules one by one: the operator over the present rules, and how large it is.
 use Prim.Native.Nat.{ℕ, zero, suc, _+_, _-_, _*_, _^_, _≤_}
-use mathlib.Core.Bool.{Bool, true, false, cond}
 use mathlib.Core.List.{List, [], _∷_}
 use mathlib.Core.Path.{_≡_, refl, sym, ap, subst, _∙_}
-use lib.Dec.{T, leb}
+use lib.Dec.{T}
 use native.Mathlib.Nat.{le-trans, pow-le-pow-right}
 use native.Mathlib.Numerals.{add-one}
 use native.Mathlib.Omega.{arith}
-use lib.IntN.{ℤ, pos, negsuc, negℤ, natAbs, _+ℤ_, _*ℤ_, +ℤ-idr}
+use lib.IntN.{ℤ, pos, natAbs, _+ℤ_, _*ℤ_, +ℤ-idr}
 use lib.ListN.{length}
-use lib.Signed.{mag, leZ, nonNeg}
+use lib.Signed.{mag, nonNeg}
 use mir.Syntax.{w64}
 use mir.Val.{Fits}
-use borrow.Author.Tests.{leb-true}
-use Rattle.arith.specs.Lists.{Each}
 use Rattle.arith.proofs.Signed.{mag-add}
-use Rattle.arith.proofs.Tests.{and-left, and-right, clash}
 use Rattle.arith.proofs.Whole.{times-one}
-use Rattle.signals.specs.Sets.{present}
 use Rattle.peal.specs.Policies.{Rule, Policy, MinMax, smaller, larger}
 use Rattle.peal.specs.Score.{scaled, total, product, scaledProduct, ofTwo, ofAll, applied}
 use Rattle.peal.specs.Combining.{combinedOf}
@@ -26,6 +21,7 @@ use Rattle.peal.specs.declared.Operator.the-variants.{Min, Max, Sum, Mul}
 use Rattle.peal.specs.SearchFindsLines.{scoreFits}
 use Rattle.peal.proofs.HavingLaws.{product-natural}
 use Rattle.book.specs.Acceptance.{within, scoreInRange}
+use Rattle.book.proofs.ScoreSizes.{score-mag, two-mag, InRange, Room}
 use Rattle.score.specs.PolicyScores.{over, presentOf, valueWith, withScore}
 use Rattle.score.specs.declared.policies.Present.{Present}
 
@@ -95,34 +91,6 @@ present-more p r (q ∷ rs) = refl
 
 -- ---- how large the operator over rules is
 
-pub within-mag : (lo hi : ℕ) (z : ℤ) → within (negℤ (pos lo)) (pos hi) z ≡ true → (n : ℕ) → lo ≤ n → hi ≤ n → mag z ≤ n
-unfolding within
-within-mag lo hi (pos z) h n l k = omega (arith, leb-true z hi (and-right (leZ (negℤ (pos lo)) (pos z)) (leb z hi) h))
-within-mag zero hi (negsuc z) h n l k = clash h refl
-within-mag (suc lo) hi (negsuc z) h n l k = omega (arith, leb-true z lo (and-left (leb z lo) true h))
-
-score-mag : (o : Operator) (v : ℤ) → scoreInRange o v ≡ true → mag v ≤ 10000
-unfolding scoreInRange
-score-mag Min v h = within-mag 10000 10000 v h 10000 (omega arith) (omega arith)
-score-mag Max v h = within-mag 10000 10000 v h 10000 (omega arith) (omega arith)
-score-mag Sum v h = within-mag 0 10000 v h 10000 (omega arith) (omega arith)
-score-mag Mul v h = within-mag 0 100 v h 10000 (omega arith) (omega arith)
-
-abbrev pub InScore : Operator → Rule → Type 0
-InScore o r = scoreInRange o (r .score) ≡ true
-
-abbrev pub InRange : Operator → List Rule → Type 0
-InRange o rules = Each (InScore o) rules
-
-one-mag : (t : Bool) (v w : ℤ) (n : ℕ) → mag v ≤ n → mag w ≤ n → mag (cond t v w) ≤ n
-one-mag true v w n p q = p
-one-mag false v w n p q = q
-
-two-mag : (m : MinMax) (v w : ℤ) (n : ℕ) → mag v ≤ n → mag w ≤ n → mag (ofTwo m v w) ≤ n
-unfolding ofTwo
-two-mag smaller v w n p q = one-mag (leZ v w) v w n p q
-two-mag larger v w n p q = one-mag (leZ v w) w v n q p
-
 -- n rules at most, in an operator
 abbrev bound : Operator → ℕ → ℕ
 bound Min n = 10000
@@ -143,10 +111,6 @@ over-mag Max r (q ∷ rs) h = two-mag larger (r .score) (over Max q rs) 10000 (s
 over-mag Sum r [] h = omega (arith, score-mag Sum (r .score) (h .0))
 over-mag Sum r (q ∷ rs) h = omega (arith, score-mag Sum (r .score) (h .0), over-mag Sum q rs (h .1), mag-add (r .score) (over Sum q rs))
 over-mag Mul r rs h = let t = mul-natural r rs h in subst (λ (z : ℤ). mag z ≤ 100 ^ length (r ∷ rs)) (sym (t .1)) (t .2)
-
--- as many rules as a policy may have
-abbrev pub Room : Operator → ℕ → Type 0
-Room o n = (n ≤ 16) × (o ≡ Mul → n ≤ 8)
 
 bound-small : (o : Operator) (n : ℕ) → Room o n → bound o n ≤ 10 ^ 16
 bound-small Min n h = omega arith

@@ -20,10 +20,11 @@ use Rattle.book.specs.Ranges.{PolicyInRange}
 use Rattle.book.specs.Stored.{storedPolicy}
 use Rattle.book.specs.declared.stored.Policy.{Policy as StoredPolicy}
 use Rattle.book.proofs.RangeLaws.{rules-at-most}
+use Rattle.book.proofs.ScoreSizes.{within-mag, InScore, InRange, Room}
 use Rattle.book.proofs.StoredRules.{count-is, operator-is, signal-at, score-at}
 use Rattle.score.specs.PolicyScores.{ruleScore, over, presentOf, withScore}
 use Rattle.score.specs.declared.policies.Present.{Present}
-use Rattle.score.proofs.PolicyLaws.{within-mag, InScore, InRange, Room, applied-mul, mul-natural, over-small, present-more}
+use Rattle.score.proofs.PolicyLaws.{applied-mul, mul-natural, over-small, present-more}
 
 module _ (p : StoredPolicy) (q : Policy) (e : p ≡ storedPolicy q) (i : ℕ) (h : i < p .count) (set : ℕ) (t : Bool) (told : t ≡ present set (getD (p .signals) i 0)) where
   here : present set (getD (q .rules) i noRule .signal) ≡ t

@@ -1,0 +1,334 @@
+-- The search, step by step: a rule more among those taken, and what is found from there.
+use Prim.Native.Nat.{ℕ, suc, _+_, _-_, _*_, _^_, _≤_, _<_}
+use mathlib.Core.Bool.{Bool, true, false, cond}
+use mathlib.Core.List.{List, [], _∷_, _++_, map, append-assoc, map-append}
+use mathlib.Core.Path.{_≡_, refl, sym, ap, ap₂, subst, _∙_}
+use native.Mathlib.Nat.{le-trans, pow-suc, pow-le-pow-right}
+use native.Mathlib.Omega.{arith}
+use lib.IntN.{ℤ, pos, negsuc, negℤ, _+ℤ_, +ℤ-idr}
+use lib.ListN.{length, getD, length-append}
+use lib.Signed.{mag, leZ}
+use mir.Syntax.{w64}
+use mir.Val.{SFits}
+use Rattle.arith.specs.Lists.{Each}
+use Rattle.arith.proofs.Order.{leZ-trans}
+use Rattle.arith.proofs.Tests.{and-left, and-right, clash}
+use Rattle.arith.proofs.Whole.{times-one}
+use Rattle.signals.specs.Sets.{setOf}
+use Rattle.peal.specs.Policies.{Rule, Policy, smaller, larger, noRule}
+use Rattle.peal.specs.Score.{ofTwo}
+use Rattle.peal.specs.Having.{has}
+use Rattle.peal.specs.Search.{foundFrom, foundSets}
+use Rattle.peal.specs.Translation.{maskOf}
+use Rattle.peal.specs.Combining.{combinedOf}
+use Rattle.peal.specs.declared.Operator.{Operator}
+use Rattle.peal.specs.declared.Operator.the-variants.{Min, Max, Sum, Mul}
+use Rattle.book.specs.Acceptance.{within, scoreInRange}
+use Rattle.peal.proofs.CombiningLaws.{small-fits}
+use Rattle.book.proofs.ScoreSizes.{InScore, range-fits}
+use Rattle.book.proofs.StoredRules.{count-is, operator-is, signal-at, score-at}
+use Rattle.compiler.specs.Worth.{start, worth, limitOf, reachedOf}
+use Rattle.compiler.specs.Planning.{restOf, RulesInRange, PlanFor}
+use Rattle.compiler.specs.Searching.{IsTaken, Searching, nextRule, found}
+use Rattle.compiler.specs.declared.planning.Plan.{Plan}
+use Rattle.compiler.specs.declared.searching.Taken.{Taken}
+use Rattle.compiler.proofs.WorthLaws.{worth-has, worth-append}
+use Rattle.compiler.proofs.RestLaws.{no-rest, all-rest, more-rest, rest-length, worth-small}
+
+-- ---- parts of a list
+
+module _ {A : Type 0} (P : A → Type 0) where
+  each-left : (xs ys : List A) → Each P (xs ++ ys) → Each P xs
+  each-left [] ys h = tt
+  each-left (x ∷ xs) ys h = (h .0, each-left xs ys (h .1))
+
+  each-but-one : (xs : List A) (y : A) (ys : List A) → Each P (xs ++ (y ∷ ys)) → Each P (xs ++ ys)
+  each-but-one [] y ys h = h .1
+  each-but-one (x ∷ xs) y ys h = (h .0, each-but-one xs y ys (h .1))
+
+  each-middle : (xs : List A) (y : A) (ys : List A) → Each P (xs ++ (y ∷ ys)) → P y
+  each-middle [] y ys h = h .0
+  each-middle (x ∷ xs) y ys h = each-middle xs y ys (h .1)
+
+-- ---- one rule more
+
+-- the operator over one score alone is that score
+module _ (v : ℤ) where
+  alone-larger : leZ (negℤ (pos 10000)) v ≡ true → ofTwo larger v (negℤ (pos 200001)) ≡ v
+  unfolding ofTwo
+  alone-larger h = go (leZ v (negsuc 200000)) refl
+    where
+      go : (b : Bool) → leZ v (negsuc 200000) ≡ b → cond b (negsuc 200000) v ≡ v
+      go true e = clash (leZ-trans (negsuc 9999) v (negsuc 200000) h e) refl
+      go false e = refl
+
+  alone-smaller : leZ v (pos 10000) ≡ true → ofTwo smaller v (pos 200001) ≡ v
+  unfolding ofTwo
+  alone-smaller h = rw (leZ-trans v (pos 10000) (pos 200001) h refl)
+
+  alone : (o : Operator) → scoreInRange o v ≡ true → combinedOf o v (start o) ≡ v
+  unfolding combinedOf start scoreInRange within
+  alone Sum h = +ℤ-idr v
+  alone Mul h = times-one v
+  alone Max h = alone-larger (and-left (leZ (negℤ (pos 10000)) v) (leZ v (pos 10000)) h)
+  alone Min h = alone-smaller (and-right (leZ (negℤ (pos 10000)) v) (leZ v (pos 10000)) h)
+
+worth-more : (o : Operator) (X : List Rule) (r : Rule) → scoreInRange o (r .score) ≡ true → combinedOf o (worth o X) (r .score) ≡ worth o (X ++ (r ∷ []))
+unfolding worth
+worth-more o X r h = ap (combinedOf o (worth o X)) (sym (alone (r .score) o h)) ∙ sym (worth-append o X (r ∷ []))
+
+-- the mask of some rules is the sum of their bits
+sets-more : (ss : List ℕ) (s : ℕ) → setOf ss + setOf (s ∷ []) ≡ setOf (ss ++ (s ∷ []))
+unfolding setOf
+sets-more [] s = omega arith
+sets-more (x ∷ ss) s = omega (arith, sets-more ss s)
+
+mask-more : (X : List Rule) (r : Rule) → maskOf X + setOf (r .signal ∷ []) ≡ maskOf (X ++ (r ∷ []))
+unfolding maskOf
+mask-more X r = sets-more (map (λ (x : Rule). x .signal) X) (r .signal) ∙ ap setOf (sym (map-append (λ (x : Rule). x .signal) X (r ∷ [])))
+
+bit-small : (s : ℕ) → s < 16 → 2 ^ s ≤ 32768
+bit-small s h = let k : s ≤ 15 = omega arith in pow-le-pow-right {n = 2} (omega arith) k
+
+mask-small : (X : List Rule) → Each (λ (r : Rule). r .signal < 16) X → maskOf X ≤ 32768 * length X
+unfolding maskOf setOf
+mask-small [] h = omega arith
+mask-small (r ∷ X) h = omega (arith, bit-small (r .signal) (h .0), mask-small X (h .1))
+
+-- ---- ranges of what is taken and what is still to come
+
+module _ (o : Operator) (X : List Rule) (r : Rule) (Y : List Rule) (h : RulesInRange o (X ++ (r ∷ Y))) where
+  all-length : length (X ++ (r ∷ Y)) ≡ length X + length Y + 1
+  all-length = omega (arith, length-append X (r ∷ Y))
+
+  range-without : RulesInRange o (X ++ Y)
+  range-without =
+      record {
+        signals = each-but-one (λ (x : Rule). x .signal < 16) X r Y (h .signals);
+        scores = each-but-one (InScore o) X r Y (h .scores);
+        few = omega (arith, length-append X Y, all-length, h .few);
+        room = λ m. omega (arith, length-append X Y, all-length, h .room m);
+      }
+
+  range-with : RulesInRange o (X ++ (r ∷ []) ++ Y)
+  range-with = subst (RulesInRange o) (sym (append-assoc X (r ∷ []) Y)) h
+
+pub range-taken : (o : Operator) (X Y : List Rule) → RulesInRange o (X ++ Y) → RulesInRange o X
+range-taken o X Y h =
+    record {
+      signals = each-left (λ (x : Rule). x .signal < 16) X Y (h .signals);
+      scores = each-left (InScore o) X Y (h .scores);
+      few = omega (arith, length-append X Y, h .few);
+      room = λ m. omega (arith, length-append X Y, h .room m);
+    }
+
+-- ---- what the plan tells of rules that are taken and still to come
+
+module _ (plan : Plan) (x : Taken) (left : ℕ) (q : Policy) (t : ℤ) (X : List Rule) (h : Searching plan x left q t X) where
+  abbrev o : Operator
+  o = q .operator
+
+  abbrev all : List Rule
+  all = X ++ restOf left (q .rules)
+
+  all-count : x .count + left ≡ length all
+  all-count = omega (arith, h .taken .count, length-append X (restOf left (q .rules)), rest-length (q .rules) left (omega (arith, h .inside)))
+
+  pub taken-few : x .count + left ≤ 16
+  taken-few = omega (arith, all-count, h .range .few)
+
+  pub taken-small : mag (x .value) ≤ 10 ^ 16
+  taken-small = subst (λ (z : ℤ). mag z ≤ 10 ^ 16) (sym (h .taken .value)) (worth-small o X (range-taken o X (restOf left (q .rules)) (h .range)))
+
+  pub taken-fits : SFits w64 (x .value)
+  taken-fits = small-fits (x .value) taken-small
+
+  op-is : plan .policy .operator ≡ o
+  op-is = operator-is (plan .policy) q (h .planned .held)
+
+  -- a limit and a value tell whether rules Y have the property
+  tells : (Y : List Rule) → RulesInRange o Y → (k : ℕ) → k ≡ length Y → k ≤ length (q .rules) → (l v : ℤ) → l ≡ getD (plan .limits) k (pos 0) → v ≡ worth o Y
+      → reachedOf (plan .policy .operator) l v ≡ has o t Y
+  tells Y r k e i l v f g =
+      ap (λ (p : Operator). reachedOf p l v) op-is
+      ∙ ap₂ (reachedOf o) (f ∙ h .planned .limits k i ∙ ap (limitOf o t) e) g
+      ∙ worth-has o t Y (range-fits o Y (r .scores) (r .room)) (h .planned .fits)
+
+  -- the rules taken
+  pub taken-tells : (l v : ℤ) → l ≡ getD (plan .limits) (x .count) (pos 0) → v ≡ x .value → reachedOf (plan .policy .operator) l v ≡ has o t X
+  taken-tells l v f g =
+      tells X (range-taken o X (restOf left (q .rules)) (h .range)) (x .count) (h .taken .count) (omega (arith, h .inside, h .taken .count)) l v f (g ∙ h .taken .value)
+
+  -- these and the rules still to come
+  module _ (v w : ℤ) (g : v ≡ x .value) (e : w ≡ getD (plan .rests) left (pos 0)) where
+    pub all-worth : combinedOf (plan .policy .operator) v w ≡ worth o all
+    all-worth =
+        ap (λ (p : Operator). combinedOf p v w) op-is
+        ∙ ap₂ (combinedOf o) (g ∙ h .taken .value) (e ∙ h .planned .rests left (omega (arith, h .inside)))
+        ∙ sym (worth-append o X (restOf left (q .rules)))
+
+    pub all-small : mag (combinedOf (plan .policy .operator) v w) ≤ 10 ^ 16
+    all-small = subst (λ (z : ℤ). mag z ≤ 10 ^ 16) (sym all-worth) (worth-small o all (h .range))
+
+    pub all-tell : (l z : ℤ) → l ≡ getD (plan .limits) (x .count + left) (pos 0) → z ≡ combinedOf (plan .policy .operator) v w → reachedOf (plan .policy .operator) l z ≡ has o t all
+    all-tell l z f k = tells all (h .range) (x .count + left) all-count (omega (arith, h .inside, h .taken .count)) l z f (k ∙ all-worth)
+
+-- ---- the search, by whether the property is there
+
+module _ (property : List Rule → Bool) (X : List Rule) where
+  from-itself : property X ≡ true → (rest : List Rule) → foundFrom property X rest ≡ X ∷ []
+  unfolding foundFrom
+  from-itself h [] = rw h
+  from-itself h (r ∷ rest) = rw h
+
+  module _ (lacks : property X ≡ false) where
+    from-nothing : foundFrom property X [] ≡ []
+    unfolding foundFrom
+    from-nothing = rw lacks
+
+    module _ (r : Rule) (rest : List Rule) where
+      from-stop : property (X ++ (r ∷ rest)) ≡ false → foundFrom property X (r ∷ rest) ≡ []
+      unfolding foundFrom
+      from-stop h = rw (lacks, h)
+
+      from-further : property (X ++ (r ∷ rest)) ≡ true → foundFrom property X (r ∷ rest) ≡ foundFrom property (X ++ (r ∷ [])) rest ++ foundFrom property X rest
+      unfolding foundFrom
+      from-further h = rw (lacks, h)
+
+-- at most one set for each set of the rules still to come
+from-few : (property : List Rule → Bool) (X rest : List Rule) → length (foundFrom property X rest) ≤ 2 ^ length rest
+unfolding foundFrom
+from-few property X [] = go (property X)
+  where
+    go : (b : Bool) → length (cond b (X ∷ []) []) ≤ 1
+    go true = omega arith
+    go false = omega arith
+from-few property X (r ∷ rest) = go (from-few property (X ++ (r ∷ [])) rest) (from-few property X rest) (property X) (property (X ++ (r ∷ rest)))
+  where
+    with-it : List (List Rule)
+    with-it = foundFrom property (X ++ (r ∷ [])) rest
+
+    without : List (List Rule)
+    without = foundFrom property X rest
+
+    doubled : 2 ^ suc (length rest) ≡ 2 ^ length rest * 2
+    doubled = pow-suc 2 (length rest)
+
+    go : length with-it ≤ 2 ^ length rest → length without ≤ 2 ^ length rest → (b c : Bool) → length (cond b (X ∷ []) (cond c (with-it ++ without) [])) ≤ 2 ^ suc (length rest)
+    go m n true c = let h : 0 ≤ suc (length rest) = omega arith in pow-le-pow-right {n = 2} (omega arith) h
+    go m n false true = omega (arith, doubled, length-append with-it without)
+    go m n false false = omega arith
+
+-- ---- the beginning: no rule is taken
+
+module _ (plan : Plan) (q : Policy) (t : ℤ) (h : PlanFor plan q t) where
+  all-coming : restOf (plan .policy .count) (q .rules) ≡ q .rules
+  all-coming = ap (λ (n : ℕ). restOf n (q .rules)) (count-is (plan .policy) q (h .held)) ∙ all-rest (q .rules)
+
+  pub beginning : (x : Taken) → IsTaken x (q .operator) [] → Searching plan x (plan .policy .count) q t []
+  beginning x i =
+      record {
+        planned = h;
+        taken = i;
+        inside = omega (arith, count-is (plan .policy) q (h .held));
+        range = subst (RulesInRange (q .operator)) (sym all-coming) (h .range);
+      }
+
+  pub all-found : found q t [] (plan .policy .count) ≡ foundSets (has (q .operator) t) (q .rules)
+  unfolding found foundSets
+  all-found = ap (foundFrom (has (q .operator) t) []) all-coming
+
+  pub found-few : length (foundSets (has (q .operator) t) (q .rules)) ≤ 65536
+  unfolding foundSets
+  found-few = le-trans (from-few (has (q .operator) t) [] (q .rules)) (pow-le-pow-right {n = 2} (omega arith) (h .range .few))
+
+-- ---- one step, with rules still to come
+
+module _ (plan : Plan) (x : Taken) (left : ℕ) (q : Policy) (t : ℤ) (X : List Rule) (some-left : 0 < left) (h : Searching plan x left q t X) where
+  abbrev next : Rule
+  next = nextRule q left
+
+  abbrev after : List Rule
+  after = restOf (left - 1) (q .rules)
+
+  coming : restOf left (q .rules) ≡ next ∷ after
+  unfolding nextRule
+  coming =
+      let e : left - 1 + 1 ≡ left = omega arith in
+      ap (λ (n : ℕ). restOf n (q .rules)) (sym e) ∙ more-rest (q .rules) (left - 1) (omega (arith, h .inside))
+      ∙ ap (λ (n : ℕ). getD (q .rules) (length (q .rules) - n) noRule ∷ after) e
+
+  range : RulesInRange (q .operator) (X ++ (next ∷ after))
+  range = subst (λ (Y : List Rule). RulesInRange (q .operator) (X ++ Y)) coming (h .range)
+
+  -- the rule is left out
+  pub left-out : Searching plan x (left - 1) q t X
+  left-out = record { planned = h .planned; taken = h .taken; inside = omega (arith, h .inside); range = range-without (q .operator) X next after range }
+
+  -- the rule is taken
+  pub taken-in : (y : Taken) → IsTaken y (q .operator) (X ++ (next ∷ [])) → Searching plan y (left - 1) q t (X ++ (next ∷ []))
+  taken-in y i =
+      record { planned = h .planned; taken = i; inside = omega (arith, h .inside, length-append X (next ∷ [])); range = range-with (q .operator) X next after range }
+
+  -- where the plan keeps it
+  pub next-inside : (left ≤ plan .policy .count) × (plan .policy .count ≤ 16)
+  next-inside = let n = count-is (plan .policy) q (h .planned .held) in (omega (arith, n, h .inside), omega (arith, n, h .planned .range .few))
+
+  kept-at : getD (q .rules) (plan .policy .count - left) noRule ≡ next
+  unfolding nextRule
+  kept-at = ap (λ (n : ℕ). getD (q .rules) (n - left) noRule) (count-is (plan .policy) q (h .planned .held))
+
+  pub next-signal : getD (plan .policy .signals) (plan .policy .count - left) 0 ≡ next .signal
+  next-signal = signal-at (plan .policy) q (h .planned .held) (plan .policy .count - left) (omega (arith, next-inside .0)) ∙ ap (λ (r : Rule). r .signal) kept-at
+
+  next-score : getD (plan .policy .scores) (plan .policy .count - left) (pos 0) ≡ next .score
+  next-score = score-at (plan .policy) q (h .planned .held) (plan .policy .count - left) (omega (arith, next-inside .0)) ∙ ap (λ (r : Rule). r .score) kept-at
+
+  pub next-below : getD (plan .policy .signals) (plan .policy .count - left) 0 ≤ 15
+  next-below = omega (arith, next-signal, each-middle (λ (r : Rule). r .signal < 16) X next after (range .signals))
+
+  -- the rules taken with it
+  pub next-mask : (b : ℕ) → b ≡ setOf (getD (plan .policy .signals) (plan .policy .count - left) 0 ∷ []) → x .mask + b ≡ maskOf (X ++ (next ∷ []))
+  next-mask b e = ap₂ (λ (m n : ℕ). m + n) (h .taken .mask) (e ∙ ap (λ (s : ℕ). setOf (s ∷ [])) next-signal) ∙ mask-more X next
+
+  pub next-mask-small : (b : ℕ) → b ≡ setOf (getD (plan .policy .signals) (plan .policy .count - left) 0 ∷ []) → x .mask + b < 2 ^ 32
+  next-mask-small b e =
+      let r = range-taken (q .operator) (X ++ (next ∷ [])) after (range-with (q .operator) X next after range) in
+      omega (arith, next-mask b e, mask-small (X ++ (next ∷ [])) (r .signals), r .few)
+
+  pub next-count : x .count + 1 ≡ length (X ++ (next ∷ []))
+  next-count = omega (arith, h .taken .count, length-append X (next ∷ []))
+
+  pub next-worth : (v w : ℤ) → v ≡ x .value → w ≡ getD (plan .policy .scores) (plan .policy .count - left) (pos 0)
+      → combinedOf (plan .policy .operator) v w ≡ worth (q .operator) (X ++ (next ∷ []))
+  next-worth v w e f =
+      ap (λ (o : Operator). combinedOf o v w) (operator-is (plan .policy) q (h .planned .held))
+      ∙ ap₂ (combinedOf (q .operator)) (e ∙ h .taken .value) (f ∙ next-score)
+      ∙ worth-more (q .operator) X next (each-middle (InScore (q .operator)) X next after (range .scores))
+
+  pub next-small : (v w : ℤ) → v ≡ x .value → w ≡ getD (plan .policy .scores) (plan .policy .count - left) (pos 0) → mag (combinedOf (plan .policy .operator) v w) ≤ 10 ^ 16
+  next-small v w e f =
+      subst (λ (z : ℤ). mag z ≤ 10 ^ 16) (sym (next-worth v w e f))
+      (worth-small (q .operator) (X ++ (next ∷ [])) (range-taken (q .operator) (X ++ (next ∷ [])) after (range-with (q .operator) X next after range)))
+
+  -- ---- what is found
+
+  module _ (lacks : has (q .operator) t X ≡ false) where
+    abbrev property : List Rule → Bool
+    property Y = has (q .operator) t Y
+
+    pub nothing-found : property (X ++ restOf left (q .rules)) ≡ false → found q t X left ≡ []
+    unfolding found
+    nothing-found n = ap (foundFrom property X) coming ∙ from-stop property X lacks next after (ap (λ (Y : List Rule). property (X ++ Y)) (sym coming) ∙ n)
+
+    pub found-further : property (X ++ restOf left (q .rules)) ≡ true → found q t X left ≡ found q t (X ++ (next ∷ [])) (left - 1) ++ found q t X (left - 1)
+    unfolding found
+    found-further y = ap (foundFrom property X) coming ∙ from-further property X lacks next after (ap (λ (Y : List Rule). property (X ++ Y)) (sym coming) ∙ y)
+
+pub found-itself : (q : Policy) (t : ℤ) (Y : List Rule) (k : ℕ) → has (q .operator) t Y ≡ true → found q t Y k ≡ Y ∷ []
+unfolding found
+found-itself q t Y k h = from-itself (has (q .operator) t) Y h (restOf k (q .rules))
+
+pub found-none : (q : Policy) (t : ℤ) (X : List Rule) → has (q .operator) t X ≡ false → found q t X 0 ≡ []
+unfolding found
+found-none q t X h = ap (foundFrom (has (q .operator) t) X) (no-rest (q .rules)) ∙ from-nothing (has (q .operator) t) X h
