@@ -38,13 +38,13 @@ empty-in-range : PolicyInRange emptyPolicy
 unfolding emptyPolicy within
 empty-in-range = record { default = refl; signals = tt; distinct = tt; scores = tt; room = λ e. omega arith }
 
-policy-in-range : (ps : List Policy) → Each PolicyInRange ps → (n : ℕ) → PolicyInRange (policyAt ps n)
+pub policy-in-range : (ps : List Policy) → Each PolicyInRange ps → (n : ℕ) → PolicyInRange (policyAt ps n)
 unfolding policyAt
 policy-in-range ps ranges n = each-default PolicyInRange ps n emptyPolicy ranges empty-in-range
 
 module _ (ps : List Policy) (s : Sense) (t : ℤ) where
   -- the tree of an expression
-  abbrev tree : Expression → ListedTree
+  abbrev pub tree : Expression → ListedTree
   tree e = mapTree (joinOf s) (λ n. listed s t (policyAt ps n)) e
 
   tree-policies : (e : Expression) → policyCount (tree e) ≡ mentionCount e

@@ -2,3 +2,8 @@ pub mod Policies
 pub mod Conditions
 pub mod Words
 pub mod Books
+pub mod LineMasks
+pub mod Compiled
+pub mod Demand3
+pub mod Readings
+pub mod Examples

@@ -40,12 +40,12 @@ masks-decide X set h = (
 
 -- ---- rules in another order, and fewer rules
 
-ranked-fit : (o : Operator) (rules : List Rule) → SignalsFit rules → SignalsFit (ranked o rules)
+pub ranked-fit : (o : Operator) (rules : List Rule) → SignalsFit rules → SignalsFit (ranked o rules)
 ranked-fit o rules h =
     let d = Permᴰ·map signalOf (Permᴰ·symm (ranked-reordered o rules)) in
     record { below = each-reordered (λ (s : ℕ). s < 16) d (h .below); different = distinct-reordered d (h .different) }
 
-fewer-fit : {Y X : List Rule} → SetInside Y X → SignalsFit X → SignalsFit Y
+pub fewer-fit : {Y X : List Rule} → SetInside Y X → SignalsFit X → SignalsFit Y
 fewer-fit s h =
     record { below = each-inside (λ (s : ℕ). s < 16) (inside-map signalOf s) (h .below); different = distinct-inside (inside-map signalOf s) (h .different) }
 

@@ -46,7 +46,7 @@ unfolding present
 none-present zero = refl
 none-present (suc i) = present-suc 0 i ∙ none-present i
 
-present-set : (ss : List ℕ) → Distinct ss → (i : ℕ) → present (setOf ss) i ≡ isIn i ss
+pub present-set : (ss : List ℕ) → Distinct ss → (i : ℕ) → present (setOf ss) i ≡ isIn i ss
 unfolding setOf
 present-set [] d i = none-present i
 present-set (s ∷ ss) d i = present-more s (setOf ss) i (present-set ss (d .1) s ∙ d .0) ∙ ap (λ (t : Bool). eqb s i || t) (present-set ss (d .1) i)

@@ -1,0 +1,104 @@
+-- Demand 3: rod and logger say the same of a compiled condition, and its listing has the minimal sets, each once.
+use Prim.Native.Nat.{ℕ}
+use mathlib.Core.Bool.{Bool}
+use mathlib.Core.List.{List, _++_, Forall₂, Forall₂·nil, Forall₂·cons}
+use mathlib.Core.Path.{_≡_, refl, sym, ap, subst, _∙_}
+use lib.ListN.{length}
+use Rattle.answers.specs.Answers.{Answer, result, refused, onResult}
+use Rattle.answers.proofs.Results.{no-refusal, result-is}
+use Rattle.arith.specs.Lists.{Each}
+use Rattle.arith.specs.Trees.{leaf, join, postfix, mapTree}
+use Rattle.arith.proofs.Tests.{clash}
+use Rattle.layout.specs.Records.{records}
+use Rattle.layout.specs.Nodes.{nodes}
+use Rattle.layout.proofs.Soundness.{nodes-listing}
+use Rattle.rod.specs.Reading.{rodAnswer}
+use Rattle.rod.specs.Meaning.{rodMeaning}
+use Rattle.rod.specs.declared.Decision.{Decision as RodDecision}
+use Rattle.rod.specs.declared.Decision.the-variants.{Yes as RodYes, No as RodNo, Declined}
+use Rattle.peal.specs.Policies.{Policy, Expression, Condition, policyAt}
+use Rattle.peal.specs.Score.{decision}
+use Rattle.peal.specs.Translation.{listed, translated, listingRecords}
+use Rattle.book.specs.Ranges.{PolicyInRange}
+use Rattle.book.proofs.AskedLaws.{asked-in-range}
+use Rattle.score.specs.Meaning.{scoreMeaning}
+use Rattle.score.specs.declared.Decision.{Decision as LoggerDecision}
+use Rattle.score.specs.declared.Decision.the-variants.{Yes as LoggerYes, No as LoggerNo, Refused, NoCondition}
+use Rattle.compiler.specs.Compiling.{compiled, returned, lentAfter, compiledListing}
+use Rattle.agreement.specs.CompiledReading.{compiledReading}
+use Rattle.agreement.specs.Demand3.{CompiledAgreement, ReadingAgreement, SaySame, bothYes, bothNo, StandsFor, MinimalListing, Demand3}
+use Rattle.agreement.proofs.Policies.{signals-fit}
+use Rattle.agreement.proofs.Conditions.{policy-in-range, tree}
+use Rattle.agreement.proofs.Books.{scored-result, book-agreement}
+use Rattle.agreement.proofs.LineMasks.{masks-minimal}
+use Rattle.agreement.proofs.Compiled.{compiled-from}
+
+-- ---- the answers
+
+pub compiled-agreement : CompiledAgreement
+compiled-agreement bytes number set n lent e =
+    let x = compiled-from bytes number lent n e in
+    let scored = scored-result bytes number set (x .book) (x .condition) (x .ofBook) in (
+      decision (x .book .policies) (x .condition) set,
+      ap (λ (ws : List ℕ). rodAnswer ws set) (x .listing) ∙ book-agreement bytes number set (x .book) (x .condition) (x .ofBook) ∙ scored,
+      scored,
+    )
+
+-- a refusal is passed up by both
+on-same : {A B : Type 0} (a : Answer A) (f g : A → Answer B) → ((x : A) → a ≡ result x → f x ≡ g x) → onResult a f ≡ onResult a g
+on-same (result x) f g h = h x refl
+on-same (refused number value) f g h = refl
+
+pub reading-agreement : ReadingAgreement
+unfolding compiledReading
+reading-agreement bytes number set lent =
+    on-same (returned (compiled bytes number (length lent))) _ _ (λ n e. let (b, r, l) = compiled-agreement bytes number set n lent e in r ∙ sym l)
+
+say-same : (b : Bool) (rod : RodDecision) (logger : LoggerDecision) → rodMeaning rod ≡ result b → scoreMeaning logger ≡ result b → SaySame rod logger
+say-same b RodYes LoggerYes r l = bothYes
+say-same b RodYes LoggerNo r l = clash (sym (result-is r)) (sym (result-is l))
+say-same b RodYes (Refused x) r l = no-refusal (sym l)
+say-same b RodYes NoCondition r l = no-refusal (sym l)
+say-same b RodNo LoggerYes r l = clash (sym (result-is l)) (sym (result-is r))
+say-same b RodNo LoggerNo r l = bothNo
+say-same b RodNo (Refused x) r l = no-refusal (sym l)
+say-same b RodNo NoCondition r l = no-refusal (sym l)
+say-same b (Declined f) logger r l = no-refusal (sym r)
+
+-- ---- the lines
+
+module _ {A B : Type 0} {R : A → B → Type 0} where
+  one-by-one : {X Z : List A} {Y W : List B} → Forall₂ R X Y → Forall₂ R Z W → Forall₂ R (X ++ Z) (Y ++ W)
+  one-by-one Forall₂·nil h = h
+  one-by-one (Forall₂·cons r s) h = Forall₂·cons r (one-by-one s h)
+
+module _ (ps : List Policy) (ranges : Each PolicyInRange ps) (c : Condition) where
+  stand-for : (e : Expression) → Forall₂ (StandsFor ps c) (postfix e) (postfix (tree ps (c .sense) (c .threshold) e))
+  unfolding postfix mapTree listed
+  stand-for (leaf n) = Forall₂·cons (masks-minimal (policyAt ps n) (c .threshold) (signals-fit (policyAt ps n) (policy-in-range ps ranges n))) Forall₂·nil
+  stand-for (join m a b) = one-by-one (stand-for a) (one-by-one (stand-for b) (Forall₂·cons refl Forall₂·nil))
+
+minimal-listing : (bytes : List ℕ) (number : ℕ) (lent : List ℕ) (n : ℕ) → returned (compiled bytes number (length lent)) ≡ result n
+    → MinimalListing bytes number (compiledListing n (lentAfter lent (compiled bytes number (length lent))))
+unfolding listingRecords translated
+minimal-listing bytes number lent n e =
+    let x = compiled-from bytes number lent n e in
+    let range = asked-in-range bytes number (x .book) (x .condition) (x .ofBook) .0 in
+    let read = ap (λ (ws : List ℕ). nodes (records ws)) (x .listing) ∙ nodes-listing (postfix (translated (x .book .policies) (x .condition))) in
+    record {
+      book = x .book;
+      condition = x .condition;
+      ofBook = x .ofBook;
+      oneByOne =
+          subst (Forall₂ (StandsFor (x .book .policies) (x .condition)) (postfix (x .condition .expression))) (sym read)
+          (stand-for (x .book .policies) (range .policies) (x .condition) (x .condition .expression));
+    }
+
+-- ---- the demand
+
+pub demand-3 : Demand3
+demand-3 bytes number set lent left n rod logger ran =
+    let (b, r, l) = compiled-agreement bytes number set n lent (sym (ran .compiling)) in (
+      say-same b rod logger (ran .reading ∙ ap (λ (ws : List ℕ). rodAnswer (compiledListing n ws) set) (ran .leaving) ∙ r) (ran .scoring ∙ l),
+      subst (λ (ws : List ℕ). MinimalListing bytes number (compiledListing n ws)) (sym (ran .leaving)) (minimal-listing bytes number lent n (sym (ran .compiling))),
+    )

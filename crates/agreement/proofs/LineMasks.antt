@@ -1,0 +1,120 @@
+-- The masks of a policy's lines are those of its minimal sets, each once: a mask tells which of some rules with different signals it was made of.
+use Prim.Native.Nat.{ℕ, _+_, _^_, _<_}
+use mathlib.Core.Bool.{Bool, false, _||_}
+use mathlib.Core.List.{List, _∷_, map, map-map, map-id, List·Memᴰ, Memᴰ·map, Memᴰ·of-map, List·Permᴰ, Permᴰ·symm, Permᴰ·exists-sublist, Sublistᴰ, Sublistᴰ·slnil, Sublistᴰ·cons, Sublistᴰ·cons-cons}
+use mathlib.Core.Path.{_≡_, refl, sym, ap, ap₂, subst, _∙_}
+use native.Mathlib.Omega.{arith}
+use lib.IntN.{ℤ}
+use lib.ListN.{length}
+use borrow.Author.Tests.{eq-eqb, ne-eqb}
+use Rattle.arith.specs.Lists.{keep, Each, isIn, Distinct}
+use Rattle.arith.proofs.Distinct.{absent-each}
+use Rattle.arith.proofs.DistinctLists.{distinct-inside, inside-map}
+use Rattle.arith.proofs.Each.{each-map, map-same}
+use Rattle.arith.proofs.Members.{each-in, each-out}
+use Rattle.arith.proofs.Reordering.{same-reordered, length-reordered}
+use Rattle.signals.specs.Sets.{present, setOf}
+use Rattle.signals.proofs.SetOfLaws.{present-set}
+use Rattle.peal.specs.Policies.{Rule, Policy}
+use Rattle.peal.specs.Ranking.{ranked}
+use Rattle.peal.specs.Lines.{lines}
+use Rattle.peal.specs.SetsOfRules.{SetInside, IsMinimal, Among, InOrder}
+use Rattle.peal.specs.Having.{has}
+use Rattle.peal.specs.LinesAreMinimal.{MinimalLines}
+use Rattle.peal.specs.Score.{presentRules}
+use Rattle.peal.specs.Translation.{maskOf}
+use Rattle.peal.specs.MasksDecide.{SignalsFit}
+use Rattle.peal.specs.declared.Operator.{Operator}
+use Rattle.peal.proofs.HavingLaws.{has-reordered}
+use Rattle.peal.proofs.LineLaws.{lines-are-minimal}
+use Rattle.peal.proofs.MaskLaws.{ranked-fit, fewer-fit}
+use Rattle.peal.proofs.OrderLaws.{order-then, order-map}
+use Rattle.peal.proofs.RankLaws.{ranked-reordered}
+use Rattle.agreement.specs.Demand3.{MinimalMask, MinimalMasks}
+
+-- ---- a list inside one with different numbers is told by its numbers
+
+module _ {A : Type 0} (number : A → ℕ) where
+  -- the test passes x exactly if its number is one of X
+  abbrev Tells : (A → Bool) → List A → A → Type 0
+  Tells test X x = test x ≡ isIn (number x) (map number X)
+
+  told-inside : (test : A → Bool) {X Y : List A} → Sublistᴰ X Y → Distinct (map number Y) → Each (Tells test X) Y → keep test Y ≡ X
+  told-inside test Sublistᴰ·slnil d h = refl
+  told-inside test (Sublistᴰ·cons s) d h =
+      let absent = distinct-inside (Sublistᴰ·cons-cons refl (inside-map number s)) d .0 in
+      rw (h .0 ∙ absent) (told-inside test s (d .1) (h .1))
+  told-inside test (Sublistᴰ·cons-cons {a = x} {b = y} {l₁ = X} {l₂ = Y} e s) d h =
+      rw (h .0 ∙ ap (λ (t : Bool). t || isIn (number y) (map number X)) (eq-eqb (number x) (number y) (ap number e)))
+      (ap₂ {B = List A} (λ z Z. z ∷ Z) (sym e) (told-inside test s (d .1) (each-in (Tells test X) Y later)))
+    where
+      later : (z : A) → List·Memᴰ z Y → Tells test X z
+      later z m =
+          let other = each-out (λ (z : A). number y ≡ number z → ⊥) (each-map (λ (i : ℕ). number y ≡ i → ⊥) number Y (absent-each (number y) (map number Y) (d .0))) m in
+          each-out (Tells test (x ∷ X)) (h .1) m ∙ ap (λ (t : Bool). t || isIn (number z) (map number X)) (ne-eqb (number x) (number z) (λ k. other (sym (ap number e) ∙ k)))
+
+-- ---- sets of rules, and the same rules in another order
+
+abbrev signalOf : Rule → ℕ
+signalOf r = r .signal
+
+-- the rules of a set are those present in its mask
+present-in-mask : {X rules : List Rule} → SetInside X rules → SignalsFit rules → presentRules (maskOf X) rules ≡ X
+unfolding presentRules maskOf
+present-in-mask {X} {rules} s fit =
+    let test : Rule → Bool = λ r. present (maskOf X) (r .signal) in
+    told-inside signalOf test s (fit .different) (each-in (Tells signalOf test X) rules (λ r m. present-set (map signalOf X) (fewer-fit s fit .different) (r .signal)))
+
+mask-reordered : {X Y : List Rule} → List·Permᴰ X Y → maskOf X ≡ maskOf Y
+unfolding maskOf setOf
+mask-reordered d = same-reordered maskOf (λ a b X. omega arith) (λ a X Y e. ap (λ (m : ℕ). 2 ^ (a .signal) + m) e) d
+
+minimal-reordered : (o : Operator) (t : ℤ) {X Y : List Rule} → List·Permᴰ X Y → IsMinimal (has o t) X → IsMinimal (has o t) Y
+minimal-reordered o t {X} {Y} d h = record { holds = sym (has-reordered o t d) ∙ h .holds; noSmaller = smaller }
+  where
+    smaller : (Z : List Rule) → SetInside Z Y → length Z < length Y → has o t Z ≡ false
+    smaller Z s l =
+        let (W, q, i) = Permᴰ·exists-sublist (Permᴰ·symm d) s in
+        sym (has-reordered o t q) ∙ h .noSmaller W i (omega (arith, length-reordered q, length-reordered d))
+
+-- ---- the lines of a policy
+
+module _ (p : Policy) (t : ℤ) (fit : SignalsFit (p .rules)) where
+  abbrev sets : List (List Rule)
+  sets = lines (p .operator) t (p .rules)
+
+  minimal-sets : MinimalLines (p .operator) t (p .rules)
+  minimal-sets = lines-are-minimal (p .operator) t (p .rules) (fit .different)
+
+  -- a set of the ranked rules has the same rules, and so the same mask, as one of the rules in book order, and the other way round
+  line-minimal : (m : ℕ) → Among m (map maskOf sets) → MinimalMask p t m
+  line-minimal m k =
+      let (L, l, e) = Memᴰ·of-map maskOf sets k in
+      let (s, minimal) = minimal-sets .exactly L .0 l in
+      let (X, d, i) = Permᴰ·exists-sublist (ranked-reordered (p .operator) (p .rules)) s in
+      record { rules = X; ofPolicy = i; minimal = minimal-reordered (p .operator) t (Permᴰ·symm d) minimal; same = sym e ∙ sym (mask-reordered d) }
+
+  minimal-line : (m : ℕ) → MinimalMask p t m → Among m (map maskOf sets)
+  minimal-line m x =
+      let (L, d, s) = Permᴰ·exists-sublist (Permᴰ·symm (ranked-reordered (p .operator) (p .rules))) (x .ofPolicy) in
+      let l = minimal-sets .exactly L .1 (s, minimal-reordered (p .operator) t (Permᴰ·symm d) (x .minimal)) in
+      subst (λ (k : ℕ). Among k (map maskOf sets)) (mask-reordered d ∙ sym (x .same)) (Memᴰ·map maskOf l)
+
+  -- a mask tells the set it was made of, so no mask stands there twice
+  abbrev told : ℕ → List Rule
+  told m = presentRules m (ranked (p .operator) (p .rules))
+
+  sets-told : map told (map maskOf sets) ≡ sets
+  sets-told =
+      let fits = ranked-fit (p .operator) (p .rules) fit in
+      map-map told maskOf sets
+      ∙ map-same (λ L. told (maskOf L)) (λ L. L) sets (each-in (λ (L : List Rule). told (maskOf L) ≡ L) sets (λ L l. present-in-mask (minimal-sets .exactly L .0 l .0) fits))
+      ∙ map-id sets
+
+  masks-once : InOrder (λ (m k : ℕ). m ≡ k → ⊥) (map maskOf sets)
+  masks-once =
+      order-then (λ (m k : ℕ). told m ≡ told k → ⊥) (λ (m k : ℕ). m ≡ k → ⊥) (λ m k differ e. differ (ap told e)) (map maskOf sets)
+      (order-map (λ (X Y : List Rule). X ≡ Y → ⊥) told (map maskOf sets) (rw sets-told (minimal-sets .once)))
+
+  pub masks-minimal : MinimalMasks p t (map maskOf sets)
+  masks-minimal = record { exactly = λ m. (line-minimal m, minimal-line m); once = masks-once }

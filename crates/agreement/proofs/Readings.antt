@@ -1,0 +1,28 @@
+-- The rod's reading of a condition just compiled, by what compiling returned.
+use Prim.Native.Nat.{ℕ, _*_}
+use mathlib.Core.Bool.{Bool}
+use mathlib.Core.List.{List}
+use mathlib.Core.Path.{_≡_, ap, _∙_}
+use native.Mathlib.Omega.{arith}
+use lib.ListN.{length, take}
+use Rattle.answers.specs.Answers.{Answer, result, onResult}
+use Rattle.rod.specs.Reading.{rodAnswer}
+use Rattle.compiler.specs.Compiling.{compiled, returned, lentAfter, compiledListing}
+use Rattle.agreement.specs.CompiledReading.{compiledReading}
+
+module _ (bytes : List ℕ) (number set : ℕ) (lent : List ℕ) where
+  -- what the rod says of n records
+  abbrev said : ℕ → Answer Bool
+  said n = rodAnswer (compiledListing n (lentAfter lent (compiled bytes number (length lent)))) set
+
+  pub reading-by : (a : Answer ℕ) → a ≡ returned (compiled bytes number (length lent)) → onResult a said ≡ compiledReading bytes number set lent
+  unfolding compiledReading
+  reading-by a e = ap (λ (a : Answer ℕ). onResult a said) e
+
+  -- the code hands the rod the first n * 4 words
+  pub reading-first : (n : ℕ) (left : List ℕ) → result n ≡ returned (compiled bytes number (length lent)) → left ≡ lentAfter lent (compiled bytes number (length lent))
+      → rodAnswer (take (n * 4) left) set ≡ compiledReading bytes number set lent
+  unfolding compiledListing
+  reading-first n left e f =
+      let k : n * 4 ≡ 4 * n = omega arith in
+      ap (λ (i : ℕ). rodAnswer (take i left) set) k ∙ ap (λ (ws : List ℕ). rodAnswer (compiledListing n ws) set) f ∙ reading-by (result n) e

@@ -1,0 +1,14 @@
+-- The rod's reading of a condition just compiled.
+use Prim.Native.Nat.{ℕ}
+use mathlib.Core.Bool.{Bool}
+use mathlib.Core.List.{List}
+use lib.ListN.{length}
+use Rattle.answers.specs.Answers.{Answer, onResult}
+use Rattle.rod.specs.Reading.{rodAnswer}
+use Rattle.compiler.specs.Compiling.{compiled, returned, lentAfter, compiledListing}
+
+-- compiling's refusal, or what the rod says of the compiled listing
+unfoldable pub compiledReading : List ℕ → ℕ → ℕ → List ℕ → Answer Bool
+compiledReading bytes number set lent =
+    let c = compiled bytes number (length lent) in
+    onResult (returned c) (λ n. rodAnswer (compiledListing n (lentAfter lent c)) set)

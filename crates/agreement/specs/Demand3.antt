@@ -1,0 +1,99 @@
+-- Claimed: demand 3, of the calls as they run. Proved in proofs/Demand3.antt.
+use Prim.Native.Nat.{ℕ}
+use mathlib.Core.Bool.{Bool}
+use mathlib.Core.List.{List, Forall₂}
+use mathlib.Core.Logic.{_↔_}
+use mathlib.Core.Path.{_≡_}
+use lib.IntN.{ℤ}
+use lib.ListN.{length}
+use Rattle.arith.specs.Trees.{Node, value, joining, postfix}
+use Rattle.answers.specs.Answers.{result, onResult}
+use Rattle.layout.specs.Records.{records}
+use Rattle.layout.specs.Nodes.{ListedNode, nodes}
+use Rattle.rod.specs.Reading.{rodAnswer}
+use Rattle.rod.specs.Meaning.{rodMeaning}
+use Rattle.rod.specs.declared.Decision.{Decision as RodDecision}
+use Rattle.rod.specs.declared.Decision.the-variants.{Yes as RodYes, No as RodNo}
+use Rattle.peal.specs.Policies.{Rule, Policy, MinMax, Condition, Book, policyAt}
+use Rattle.peal.specs.SetsOfRules.{SetInside, IsMinimal, Among, InOrder}
+use Rattle.peal.specs.Having.{has}
+use Rattle.peal.specs.Translation.{maskOf, joinOf}
+use Rattle.book.specs.Books.{asked}
+use Rattle.score.specs.Decisions.{scoredAnswer}
+use Rattle.score.specs.Meaning.{scoreMeaning}
+use Rattle.score.specs.declared.Decision.{Decision as LoggerDecision}
+use Rattle.score.specs.declared.Decision.the-variants.{Yes as LoggerYes, No as LoggerNo}
+use Rattle.compiler.specs.Compiling.{compiled, returned, lentAfter, compiledListing}
+use Rattle.compiler.specs.Meaning.{compiledMeaning}
+use Rattle.compiler.specs.declared.Compiled.the-variants.{Records}
+use Rattle.agreement.specs.CompiledReading.{compiledReading}
+
+-- ---- the calls
+
+-- an office compiles a condition of a book, hands the rod the compiled listing and a signal set, and the logger the book and the same set;
+-- each field is the promise of one call about what it returned
+pub record CallsRan (bytes : List ℕ) (number set : ℕ) (lent left : List ℕ) (n : ℕ) (rod : RodDecision) (logger : LoggerDecision) : Type 0 where
+  -- `compiler::compile` returned n records, and left these words
+  pub compiling : compiledMeaning (Records n) ≡ returned (compiled bytes number (length lent))
+  pub leaving : left ≡ lentAfter lent (compiled bytes number (length lent))
+  -- `rod::decide` on the first words as compiling left them, four for each record
+  pub reading : rodMeaning rod ≡ rodAnswer (compiledListing n left) set
+  -- `score::decide`
+  pub scoring : scoreMeaning logger ≡ scoredAnswer bytes number set
+
+-- neither refuses, and the rod says yes exactly if the logger does
+pub data SaySame : RodDecision → LoggerDecision → Type 0 where
+  bothYes : SaySame RodYes LoggerYes
+  bothNo : SaySame RodNo LoggerNo
+
+-- ---- the lines
+
+-- the mask of a minimal set of the policy's rules: in sum one whose sum exceeds T, in mul one whose product in units is at most T divided by 100
+pub record MinimalMask (p : Policy) (t : ℤ) (mask : ℕ) : Type 0 where
+  pub rules : List Rule
+  pub ofPolicy : SetInside rules (p .rules)
+  pub minimal : IsMinimal (has (p .operator) t) rules
+  pub same : mask ≡ maskOf rules
+
+-- the lines are exactly the minimal sets, each once
+pub record MinimalMasks (p : Policy) (t : ℤ) (lines : List ℕ) : Type 0 where
+  pub exactly : (line : ℕ) → Among line lines ↔ MinimalMask p t line
+  pub once : InOrder (λ (line later : ℕ). line ≡ later → ⊥) lines
+
+-- what stands in a listing for a node of the expression: for a mention a policy with its minimal sets, for min and max an "and" or "or"
+abbrev pub StandsFor : List Policy → Condition → Node MinMax ℕ → ListedNode → Type 0
+StandsFor ps c (value n) (value r) = MinimalMasks (policyAt ps n) (c .threshold) (r .lines)
+StandsFor ps c (value n) (joining j) = ⊥
+StandsFor ps c (joining m) (value r) = ⊥
+StandsFor ps c (joining m) (joining j) = j ≡ joinOf (c .sense) m
+
+-- the nodes of a listing, as the rod reads them, stand one by one for those of the condition in the order left, right, join
+pub record MinimalListing (bytes : List ℕ) (number : ℕ) (listing : List ℕ) : Type 0 where
+  pub book : Book
+  pub condition : Condition
+  pub ofBook : asked bytes number ≡ result (book, condition)
+  pub oneByOne : Forall₂ (StandsFor (book .policies) condition) (postfix (condition .expression)) (nodes (records listing))
+
+-- ---- the demand
+
+abbrev pub Demand3 : Type 0
+Demand3 =
+    (bytes : List ℕ) (number set : ℕ) (lent left : List ℕ) (n : ℕ) (rod : RodDecision) (logger : LoggerDecision)
+    → CallsRan bytes number set lent left n rod logger
+    → SaySame rod logger × MinimalListing bytes number (compiledListing n left)
+
+-- ---- its first half by the definitions alone
+
+-- where compiling returns n records, the rod's answer on the compiled listing and the logger's on the book are one yes or no
+abbrev pub CompiledAgreement : Type 0
+CompiledAgreement =
+    (bytes : List ℕ) (number set n : ℕ) (lent : List ℕ) → returned (compiled bytes number (length lent)) ≡ result n
+    → (yes : Bool)
+    × (rodAnswer (compiledListing n (lentAfter lent (compiled bytes number (length lent)))) set ≡ result yes)
+    × (scoredAnswer bytes number set ≡ result yes)
+
+-- so `agreement::compile_and_read` gives compiling's refusal, or the logger's answer
+abbrev pub ReadingAgreement : Type 0
+ReadingAgreement =
+    (bytes : List ℕ) (number set : ℕ) (lent : List ℕ)
+    → compiledReading bytes number set lent ≡ onResult (returned (compiled bytes number (length lent))) (λ n. scoredAnswer bytes number set)
