@@ -4,3 +4,5 @@ pub mod RankOrder
 pub mod Worth
 pub mod Putting
 pub mod Computing
+pub mod Planning
+pub mod Nodes
