@@ -41,8 +41,3 @@ module _ {A : Type 0} where
   pub padded-length : (n : ℕ) (z : A) (xs : List A) → length xs ≤ n → length (padded n z xs) ≡ n
   unfolding padded
   padded-length n z xs h = length-append xs (replicate (n - length xs) z) ∙ ap (λ (k : ℕ). length xs + k) (length-replicate (n - length xs) z) ∙ omega arith
-
-  -- cells for all of a list are enough for it
-  pub padded-room : (n : ℕ) (z : A) (xs : List A) → length (padded n z xs) ≡ n → length xs ≤ n
-  unfolding padded
-  padded-room n z xs h = omega (arith, length-append xs (replicate (n - length xs) z))

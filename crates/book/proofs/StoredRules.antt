@@ -1,10 +1,11 @@
 -- The rules of a stored policy, for the crates above.
-use Prim.Native.Nat.{ℕ, _≤_, _<_}
-use mathlib.Core.List.{map}
+use Prim.Native.Nat.{ℕ, suc, _-_, _≤_, _<_}
+use mathlib.Core.List.{List, _∷_, map}
 use mathlib.Core.Path.{_≡_, ap, _∙_}
 use native.Mathlib.Omega.{arith}
 use lib.IntN.{pos}
-use lib.ListN.{length, getD, length-map, List·getD-map}
+use lib.ListN.{length, getD, drop, length-map, List·getD-map}
+use lib.Seq.{drop-cons}
 use Rattle.arith.proofs.Each.{each-get}
 use Rattle.arith.proofs.Padding.{padded-get}
 use Rattle.peal.specs.Policies.{Rule, Policy, noRule}
@@ -12,6 +13,12 @@ use Rattle.book.specs.Ranges.{signalsOf, PolicyKept}
 use Rattle.book.specs.Stored.{storedPolicy}
 use Rattle.book.specs.declared.stored.Policy.{Policy as StoredPolicy}
 use Rattle.book.proofs.RangeLaws.{rules-at-most}
+
+-- the rules from the one before rule i on
+pub rules-before : (rules : List Rule) (i : ℕ) → 0 < i → i ≤ length rules → drop (i - 1) rules ≡ getD rules (i - 1) noRule ∷ drop i rules
+rules-before rules i a b =
+    let e : suc (i - 1) ≡ i = omega arith in
+    drop-cons rules (i - 1) noRule (omega arith) ∙ ap (λ (n : ℕ). getD rules (i - 1) noRule ∷ drop n rules) e
 
 module _ (p : StoredPolicy) (q : Policy) (e : p ≡ storedPolicy q) where
   pub count-is : p .count ≡ length (q .rules)

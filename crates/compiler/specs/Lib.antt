@@ -6,3 +6,4 @@ pub mod Putting
 pub mod Computing
 pub mod Planning
 pub mod Searching
+pub mod Nodes

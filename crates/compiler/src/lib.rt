@@ -1,8 +1,19 @@
-// Compiling a condition of a book into lent words.
+// Compiling a condition of a book into lent words, for offices.
+// `compile` is the call, and takes every byte string, condition number and slice. The modules are this crate's own.
+mod nodes;
 mod planning;
 mod ranking;
 mod searching;
 mod writing;
+
+use nodes::count_records;
+use nodes::put_nodes;
+ghost use mathlib.Core.Path.{_≡_};
+ghost use lib.ListN.{length};
+ghost use Rattle.peal.specs.Translation.{listingRecords};
+ghost use Rattle.book.specs.Ranges.{ConditionKept};
+ghost use Rattle.compiler.specs.Compiling.{fitting, compiled, returned, lentAfter};
+ghost use Rattle.compiler.specs.Meaning.{compiledMeaning};
 
 // What compiling returns.
 pub enum Compiled {
@@ -14,4 +25,44 @@ pub enum Compiled {
     NoCondition,
     // The listing has more words than were lent.
     NoRoom,
+}
+
+// The words are written only once the listing is known to have room.
+fn compile_condition(b: book::Book, c: book::Condition, words: &mut [u32]) -> Compiled
+    requires { ⌜ ConditionKept b c ⌝ }
+    ensures { λ r. ⌜ ((h : ConditionKept b c) → compiledMeaning r ≡ returned (fitting (length (now (words .entry))) (listingRecords (h .book) (h .condition)))) ⌝ }
+    ensures { λ r. ⌜ ((h : ConditionKept b c) → now (words .exit) ≡ lentAfter (now (words .entry)) (fitting (length (now (words .entry))) (listingRecords (h .book) (h .condition)))) ⌝ }
+{
+    let all = count_records(b, c);
+    let records = all.records;
+    if words.len() < records * 4 {
+        return Compiled::NoRoom;
+    }
+    let lines = all.lines;
+    put_nodes(b, c, lines, words);
+    Compiled::Records(records)
+}
+
+pub fn compile(bytes: &[u8], condition: u32, words: &mut [u32]) -> Compiled
+    ensures { λ r. ⌜ compiledMeaning r ≡ returned (compiled (now (bytes .entry)) condition (length (now (words .entry)))) ⌝ }
+    ensures { λ r. ⌜ now (words .exit) ≡ lentAfter (now (words .entry)) (compiled (now (bytes .entry)) condition (length (now (words .entry)))) ⌝ }
+{
+    let r = book::read(bytes);
+    let answer = r.answer;
+    match answer {
+        book::Checked::Accepted {
+            policies,
+            conditions,
+        } => {
+            let n = condition as usize;
+            if n < conditions {
+                let b = r.book;
+                let c = b.conditions[n];
+                compile_condition(b, c, words)
+            } else {
+                Compiled::NoCondition
+            }
+        }
+        book::Checked::Refused(refusal) => Compiled::Refused(refusal),
+    }
 }

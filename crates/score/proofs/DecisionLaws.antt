@@ -1,37 +1,19 @@
--- The answer, from what was read.
-use Prim.Native.Nat.{ℕ, _≤_}
+-- The answer, from the condition that was asked for.
+use Prim.Native.Nat.{ℕ}
 use mathlib.Core.Bool.{Bool}
 use mathlib.Core.List.{List}
-use mathlib.Core.Path.{_≡_, sym, ap, _∙_}
-use lib.ListN.{length}
-use Rattle.answers.specs.Answers.{Answer, result, refused}
+use mathlib.Core.Path.{_≡_, ap}
+use Rattle.answers.specs.Answers.{result, refused}
 use Rattle.peal.specs.Policies.{Condition, Book}
 use Rattle.peal.specs.Score.{decision}
-use Rattle.book.specs.Books.{read, checked, conditionAt, asked}
-use Rattle.book.specs.Meaning.{bookOrEmpty}
-use Rattle.book.specs.Stored.{storedBook}
-use Rattle.book.specs.declared.stored.Book.{Book as StoredBook}
-use Rattle.book.proofs.ReadLaws.{checked-refused}
-use Rattle.book.proofs.StoredLaws.{no-condition}
+use Rattle.book.specs.Books.{asked}
 use Rattle.score.specs.Decisions.{scoredAnswer}
 
-module _ (s : List ℕ) (number set : ℕ) where
-  -- the book is refused
-  pub book-refused : (k v : ℕ) → refused k v ≡ checked s → refused k v ≡ scoredAnswer s number set
-  unfolding scoredAnswer asked
-  book-refused k v h = rw (checked-refused s k v (sym h))
+module _ (bytes : List ℕ) (number set : ℕ) where
+  pub refused-answer : (k v : ℕ) → asked bytes number ≡ refused k v → refused k v ≡ scoredAnswer bytes number set
+  unfolding scoredAnswer
+  refused-answer k v e = rw e
 
-  -- the book is read
-  module _ (b : Book) (r : read s ≡ result b) where
-    pub no-such-condition : length (b .conditions) ≤ number → refused 7 0 ≡ scoredAnswer s number set
-    unfolding scoredAnswer asked
-    no-such-condition h = rw (r, no-condition (b .conditions) number h)
-
-    pub condition-decided : (c : Condition) → conditionAt (b .conditions) number ≡ result c → (t : Bool) → t ≡ decision (b .policies) c set → result t ≡ scoredAnswer s number set
-    unfolding scoredAnswer asked
-    condition-decided c h t e = rw (r, h) (ap (λ (x : Bool). result x) e)
-
-    -- the code's book
-    pub book-held : (x : StoredBook) → x ≡ storedBook (bookOrEmpty (read s)) → x ≡ storedBook b
-    unfolding bookOrEmpty
-    book-held x h = h ∙ ap (λ (a : Answer Book). storedBook (bookOrEmpty a)) r
+  pub decided-answer : (b : Book) (c : Condition) → asked bytes number ≡ result (b, c) → (t : Bool) → t ≡ decision (b .policies) c set → result t ≡ scoredAnswer bytes number set
+  unfolding scoredAnswer
+  decided-answer b c e t f = rw e (ap (λ (x : Bool). result x) f)

@@ -1,26 +1,21 @@
 -- The nodes of a condition's expression, one by one, by their codes.
-use Prim.Native.Nat.{ℕ, zero, suc, _+_, _-_, _≤_, _<_}
-use mathlib.Core.Bool.{true}
-use mathlib.Core.List.{List, [], _∷_, map, append-nil}
-use mathlib.Core.Path.{_≡_, refl, sym, ap, subst, _∙_}
+use Prim.Native.Nat.{ℕ, _+_, _-_, _≤_, _<_}
+use mathlib.Core.List.{List, [], _∷_, append-nil}
+use mathlib.Core.Path.{_≡_, refl, sym, ap, ap₂, subst, _∙_}
 use native.Mathlib.Numerals.{add-one}
 use native.Mathlib.Omega.{arith}
-use lib.Dec.{eqb, ltb}
+use lib.Dec.{eqb}
 use lib.IntN.{ℤ}
-use lib.ListN.{length, getD, drop, length-map, length-drop, drop-of-length-le}
-use borrow.Author.Tests.{ltb-true}
-use Rattle.arith.specs.Lists.{every}
+use lib.ListN.{length, getD, drop, length-drop, drop-of-length-le}
+use lib.Seq.{drop-cons}
 use Rattle.arith.specs.Trees.{Node, value, joining, postfix, LeavesOne, taken, run}
-use Rattle.arith.proofs.Padding.{padded-get, padded-room}
-use Rattle.arith.proofs.Tests.{and-left, and-right}
 use Rattle.arith.proofs.Trees.{run-tree, tree-leaves-one, few-values}
 use Rattle.peal.specs.Policies.{Policy, MinMax, smaller, larger, Expression, Condition, policyAt}
 use Rattle.peal.specs.Score.{ofTwo, policyScore, score}
-use Rattle.book.specs.Acceptance.{mentionsBelow}
-use Rattle.book.specs.Codes.{codeOf, codesOf}
+use Rattle.book.specs.Codes.{codeOf}
 use Rattle.book.specs.Stored.{storedCondition}
 use Rattle.book.specs.declared.stored.Condition.{Condition as StoredCondition}
-use Rattle.book.proofs.JudgeLaws.{codes-below}
+use Rattle.book.proofs.StoredNodes.{nodeOf, join-code, value-code, nodes-are, code-at}
 use Rattle.score.specs.Pairs.{choiceMeaning}
 use Rattle.score.specs.ExpressionScores.{Holds, Underway}
 use Rattle.score.specs.declared.expressions.Waiting.{Waiting}
@@ -29,89 +24,35 @@ use Rattle.score.proofs.WaitingLaws.{held-count}
 abbrev Nodes : Type 0
 Nodes = List (Node MinMax ℕ)
 
--- ---- codes
+-- ---- the node of a code
 
--- node i of some nodes, and its code
-record NodeAt (ns : Nodes) (i code : ℕ) : Type 0 where
-  node : Node MinMax ℕ
-  here : drop i ns ≡ node ∷ drop (i + 1) ns
-  told : code ≡ codeOf node
-
-node-of : (ns : Nodes) (i : ℕ) → i < length ns → NodeAt ns i (getD (map codeOf ns) i 0)
-node-of ns i h = let f = go ns i h in record { node = f .0; here = f .1 ∙ ap (λ (n : ℕ). f .0 ∷ drop n ns) (sym (add-one i)); told = f .2 }
-  where
-    go : (ns : Nodes) (i : ℕ) → i < length ns → (n : Node MinMax ℕ) × (drop i ns ≡ n ∷ drop (suc i) ns) × (getD (map codeOf ns) i 0 ≡ codeOf n)
-    go [] i h = absurd (omega arith)
-    go (n ∷ ns) zero h = (n, refl, refl)
-    go (n ∷ ns) (suc i) h = go ns i (omega arith)
-
-join-code : (n : Node MinMax ℕ) (code : ℕ) → code ≡ codeOf n → code < 2 → n ≡ joining (choiceMeaning (eqb code 1))
+choice-of : (m : MinMax) → choiceMeaning (eqb (codeOf (joining m)) 1) ≡ m
 unfolding codeOf
-join-code (value m) code e h = absurd (omega arith)
-join-code (joining smaller) code e h = ap (λ (c : ℕ). joining (choiceMeaning (eqb c 1))) (sym e)
-join-code (joining larger) code e h = ap (λ (c : ℕ). joining (choiceMeaning (eqb c 1))) (sym e)
+choice-of smaller = refl
+choice-of larger = refl
 
-value-code : (n : Node MinMax ℕ) (code : ℕ) → code ≡ codeOf n → 2 ≤ code → n ≡ value (code - 2)
-unfolding codeOf
-value-code (value m) code e h = ap (λ (k : ℕ). value k) (omega arith)
-value-code (joining smaller) code e h = absurd (omega arith)
-value-code (joining larger) code e h = absurd (omega arith)
+module _ (c : StoredCondition) (d : Condition) (e : c ≡ storedCondition d) (i : ℕ) (h : i < c .length) where
+  abbrev code : ℕ
+  code = getD (c .codes) i 0
 
-module _ (c : StoredCondition) (d : Condition) (e : c ≡ storedCondition d) where
-  pub sense-is : c .sense ≡ d .sense
-  unfolding storedCondition
-  sense-is = ap (λ (x : StoredCondition). x .sense) e
+  here : (n : Node MinMax ℕ) → nodeOf (d .expression) i ≡ n → drop i (postfix (d .expression)) ≡ n ∷ drop (i + 1) (postfix (d .expression))
+  here n f =
+      let ns = postfix (d .expression) in
+      drop-cons ns i (joining smaller) (omega (arith, nodes-are c d e)) ∙ ap₂ (λ (x : Node MinMax ℕ) (j : ℕ). x ∷ drop j ns) f (sym (add-one i))
 
-  pub threshold-is : c .threshold ≡ d .threshold
-  unfolding storedCondition
-  threshold-is = ap (λ (x : StoredCondition). x .threshold) e
+  pub join-here : code < 2 → drop i (postfix (d .expression)) ≡ joining (choiceMeaning (eqb code 1)) ∷ drop (i + 1) (postfix (d .expression))
+  join-here l =
+      let n = nodeOf (d .expression) i in
+      let k = code-at c d e i h in
+      let j = join-code n (omega (arith, k)) in
+      here (joining (choiceMeaning (eqb code 1)))
+      (j .1 ∙ ap (λ (m : MinMax). joining m) (sym (ap (λ (x : ℕ). choiceMeaning (eqb x 1)) (k ∙ ap codeOf (j .1)) ∙ choice-of (j .0))))
 
-  pub nodes-are : c .length ≡ length (postfix (d .expression))
-  unfolding storedCondition codesOf
-  nodes-are = ap (λ (x : StoredCondition). x .length) e ∙ length-map (postfix (d .expression)) codeOf
-
-  code-is : (i : ℕ) → i < c .length → getD (c .codes) i 0 ≡ getD (codesOf (d .expression)) i 0
-  unfolding storedCondition
-  code-is i h =
-      ap (λ (x : StoredCondition). getD (x .codes) i 0) e
-      ∙ padded-get 31 0 (codesOf (d .expression)) i 0 (omega (arith, ap (λ (x : StoredCondition). x .length) e))
-
-  node-at : (i : ℕ) → i < c .length → NodeAt (postfix (d .expression)) i (getD (c .codes) i 0)
-  unfolding codesOf
-  node-at i h = subst (NodeAt (postfix (d .expression)) i) (sym (code-is i h)) (node-of (postfix (d .expression)) i (omega (arith, nodes-are)))
-
-  -- 31 cells hold the codes
-  pub nodes-few : length (c .codes) ≡ 31 → c .length ≤ 31
-  unfolding storedCondition
-  nodes-few h =
-      omega (
-        arith,
-        ap (λ (x : StoredCondition). x .length) e,
-        padded-room 31 0 (codesOf (d .expression)) (sym (ap (λ (x : StoredCondition). length (x .codes)) e) ∙ h),
-      )
-
-  module _ (i : ℕ) (h : i < c .length) where
-    pub join-here : getD (c .codes) i 0 < 2
-        → drop i (postfix (d .expression)) ≡ joining (choiceMeaning (eqb (getD (c .codes) i 0) 1)) ∷ drop (i + 1) (postfix (d .expression))
-    join-here l =
-        let n = node-at i h in
-        n .here ∙ ap (λ (x : Node MinMax ℕ). x ∷ drop (i + 1) (postfix (d .expression))) (join-code (n .node) (getD (c .codes) i 0) (n .told) l)
-
-    pub value-here : 2 ≤ getD (c .codes) i 0 → drop i (postfix (d .expression)) ≡ value (getD (c .codes) i 0 - 2) ∷ drop (i + 1) (postfix (d .expression))
-    value-here l =
-        let n = node-at i h in
-        n .here ∙ ap (λ (x : Node MinMax ℕ). x ∷ drop (i + 1) (postfix (d .expression))) (value-code (n .node) (getD (c .codes) i 0) (n .told) l)
-
-    -- a mention is of one of the first n policies
-    pub mention-below : (n : ℕ) → mentionsBelow n (d .expression) ≡ true → getD (c .codes) i 0 < n + 2
-    unfolding storedCondition
-    mention-below n m =
-        omega (arith, code-is i h, below (codesOf (d .expression)) i (codes-below n (d .expression) ∙ m) (omega (arith, ap (λ (x : StoredCondition). x .length) e)))
-      where
-        below : (l : List ℕ) (j : ℕ) → every (λ y. ltb y (n + 2)) l ≡ true → j < length l → getD l j 0 < n + 2
-        below [] j a b = absurd (omega arith)
-        below (x ∷ l) zero a b = ltb-true x (n + 2) (and-left (ltb x (n + 2)) (every (λ y. ltb y (n + 2)) l) a)
-        below (x ∷ l) (suc j) a b = below l j (and-right (ltb x (n + 2)) (every (λ y. ltb y (n + 2)) l) a) (omega arith)
+  pub value-here : 2 ≤ code → drop i (postfix (d .expression)) ≡ value (code - 2) ∷ drop (i + 1) (postfix (d .expression))
+  value-here l =
+      let n = nodeOf (d .expression) i in
+      let k = code-at c d e i h in
+      here (value (code - 2)) (value-code n (omega (arith, k)) ∙ ap (λ (x : ℕ). value (x - 2)) (sym k))
 
 -- ---- from node to node
 

@@ -1,5 +1,5 @@
 -- The present rules of a stored policy, one by one.
-use Prim.Native.Nat.{ℕ, suc, _-_, _^_, _≤_, _<_}
+use Prim.Native.Nat.{ℕ, _-_, _^_, _≤_, _<_}
 use mathlib.Core.Bool.{Bool, true, false, cond}
 use mathlib.Core.List.{List, [], _∷_}
 use mathlib.Core.Option.{Option, none, some}
@@ -7,7 +7,6 @@ use mathlib.Core.Path.{_≡_, refl, sym, ap, subst, _∙_}
 use native.Mathlib.Omega.{arith}
 use lib.IntN.{ℤ, pos, _*ℤ_}
 use lib.ListN.{length, getD, drop, length-drop, drop-of-length-le}
-use lib.Seq.{drop-cons}
 use lib.Signed.{mag}
 use Rattle.arith.specs.Options.{if_then_}
 use Rattle.arith.proofs.Keep.{keep-few, each-keep, each-drop}
@@ -21,7 +20,7 @@ use Rattle.book.specs.Stored.{storedPolicy}
 use Rattle.book.specs.declared.stored.Policy.{Policy as StoredPolicy}
 use Rattle.book.proofs.RangeLaws.{rules-at-most}
 use Rattle.book.proofs.ScoreSizes.{within-mag, InScore, InRange, Room}
-use Rattle.book.proofs.StoredRules.{count-is, operator-is, signal-at, score-at}
+use Rattle.book.proofs.StoredRules.{rules-before, count-is, operator-is, signal-at, score-at}
 use Rattle.score.specs.PolicyScores.{ruleScore, over, presentOf, withScore}
 use Rattle.score.specs.declared.policies.Present.{Present}
 use Rattle.score.proofs.PolicyLaws.{applied-mul, mul-natural, over-small, present-more}
@@ -44,11 +43,6 @@ module _ (set : ℕ) (rules : List Rule) where
   pub none-behind : (q : Policy) (i : ℕ) → length rules ≤ i → _≡_ {A = Present} (record { count = 0; value = q .default }) (presentOf q (presentRules set (drop i rules)))
   unfolding presentRules presentOf
   none-behind q i h = rw (drop-of-length-le rules {i = i} h)
-
-  step : (i : ℕ) → 0 < i → i ≤ length rules → drop (i - 1) rules ≡ getD rules (i - 1) noRule ∷ drop i rules
-  step i a b =
-      let e : suc (i - 1) ≡ i = omega arith in
-      drop-cons rules (i - 1) noRule (omega arith) ∙ ap (λ (n : ℕ). getD rules (i - 1) noRule ∷ drop n rules) e
 
   present-cons : (r : Rule) (rs : List Rule) (v : ℤ) → ruleScore set r ≡ some v → (presentRules set (r ∷ rs) ≡ r ∷ presentRules set rs) × (r .score ≡ v)
   unfolding ruleScore presentRules
@@ -85,12 +79,12 @@ module _ (set : ℕ) (rules : List Rule) where
           let c = present-cons r (drop i rules) v h in
           ap (withScore (q .operator) (presentOf q (presentRules set (drop i rules)))) (sym (c .1))
           ∙ present-more q r (presentRules set (drop i rules))
-          ∙ ap (presentOf q) (sym (ap (presentRules set) (step i some-left inside) ∙ c .0))
+          ∙ ap (presentOf q) (sym (ap (presentRules set) (rules-before rules i some-left inside) ∙ c .0))
 
     -- rule i - 1 is absent
     rule-not-counted : ruleScore set (getD rules (i - 1) noRule) ≡ none → presentOf q (presentRules set (drop i rules)) ≡ presentOf q (presentRules set (drop (i - 1) rules))
     rule-not-counted h =
-        ap (presentOf q) (sym (ap (presentRules set) (step i some-left inside) ∙ absent-cons (getD rules (i - 1) noRule) (drop i rules) h))
+        ap (presentOf q) (sym (ap (presentRules set) (rules-before rules i some-left inside) ∙ absent-cons (getD rules (i - 1) noRule) (drop i rules) h))
 
 -- ---- sizes
 

@@ -6,18 +6,13 @@ use native.Mathlib.Omega.{arith}
 use borrow.Author.Needs.{needs}
 use denote.Ref.{now}
 use lib.IntN.{pos}
-use lib.ListN.{length, getD}
+use lib.ListN.{getD}
 use Rattle.answers.specs.Answers.{result}
-use Rattle.peal.specs.Policies.{Condition, Book}
 use Rattle.peal.specs.declared.Sense.the-variants.{Above}
-use Rattle.book.specs.Books.{read, conditionAt}
+use Rattle.book.specs.Books.{checked}
 use Rattle.book.specs.Meaning.{checkedMeaning}
-use Rattle.book.specs.Ranges.{BookInRange, ConditionInRange}
-use Rattle.book.specs.Stored.{storedCondition, storedBook}
-use Rattle.book.proofs.RangeLaws.{read-in-range}
-use Rattle.book.proofs.ReadLaws.{checked-result}
-use Rattle.book.proofs.StoredLaws.{asked-is, condition-at, each-condition}
-use Rattle.score.proofs.DecisionLaws.{book-refused, no-such-condition, condition-decided, book-held}
+use Rattle.book.proofs.AskedLaws.{IsAsked, asked-refused, asked-room, asked-none, asked-found}
+use Rattle.score.proofs.DecisionLaws.{refused-answer, decided-answer}
 use Rattle.score.proofs.decide.Statement.{statement}
 use Rattle.score.proofs.decide.Tie as tie
 
@@ -27,54 +22,37 @@ read-requires c κs = search needs
 enum-known-answer : tie.Need-enum-known-answer
 enum-known-answer c = search needs
 
--- the book that was accepted
-module _ (c : tie.After-answer) where
-  accepted : (b : Book) × (read (now (c .before .before .before .before .args .bytes)) ≡ result b) × (c .answer .given .0 .1 .0 ≡ length (b .conditions))
-  accepted =
-      let r = c .before .before in
-      checked-result (now (r .before .before .args .bytes)) _ (sym (r .read .ensures .0) ∙ ap checkedMeaning (c .answer .given .1))
-
-  held : c .before .before .read .result .book ≡ storedBook (accepted .0)
-  held =
-      let r = c .before .before in
-      book-held (now (r .before .before .args .bytes)) (r .before .before .args .condition) (r .before .before .args .set) (accepted .0) (accepted .1) (r .read .result .book) (r .read .ensures .1)
-
-  range : BookInRange (accepted .0)
-  range = read-in-range (now (c .before .before .before .before .args .bytes)) (accepted .0) (accepted .1)
+-- the counts that were told
+told : (c : tie.After-answer) → result (record { policies = c .answer .given .0 .0; conditions = c .answer .given .0 .1 .0 }) ≡ checked (now (c .before .before .before .before .args .bytes))
+told c = ap checkedMeaning (sym (c .answer .given .1)) ∙ c .before .before .read .ensures .0
 
 -- the number is one of a condition
-inside : (c : tie.Then1) → let a = c .before .before in a .before .before .before .before .args .condition < length (accepted a .0 .conditions)
-inside c = omega (arith, c .if1 .taken, accepted (c .before .before) .2)
+small : (c : tie.After-b) → c .before .before .before .before .before .before .before .args .condition < 8
+small c =
+    let t = c .before in
+    let a = t .before .before in
+    let s = a .before .before .before .before in
+    omega (arith, t .if1 .taken, asked-room (now (s .args .bytes)) (s .args .condition) _ (told a))
 
 mul-c : tie.Need-mul-c
-mul-c c = omega (arith, inside (c .before), range (c .before .before .before) .conditionsRoom)
+mul-c c = omega (arith, small c)
 
 element-copy-out-c : tie.Need-element-copy-out-c
-element-copy-out-c c = omega (arith, inside (c .before), range (c .before .before .before) .conditionsRoom)
+element-copy-out-c c = small c
 
--- the condition of the number
-found : (c : tie.After-b) → let a = c .before .before .before in let r = a .before .before in
-    (d : Condition)
-    × (conditionAt (accepted a .0 .conditions) (r .before .before .args .condition) ≡ result d)
-    × (getD (r .read .result .book .conditions) (r .before .before .args .condition) (record { sense = Above; threshold = pos 0; length = 0; codes = [] }) ≡ storedCondition d)
+-- the book and the condition that were asked for
+found : (c : tie.After-b) → let r = c .before .before .before .before .before in let s = r .before .before in
+    IsAsked (now (s .args .bytes)) (s .args .condition) (r .read .result .book)
+    (getD (r .read .result .book .conditions) (s .args .condition) (record { sense = Above; threshold = pos 0; length = 0; codes = [] }))
 found c =
-    let a = c .before .before .before in
+    let t = c .before in
+    let a = t .before .before in
     let r = a .before .before in
-    condition-at (r .read .result .book) (accepted a .0) (held a) (r .before .before .args .condition) (record { sense = Above; threshold = pos 0; length = 0; codes = [] })
-    (omega (arith, inside (c .before), asked-is (r .read .result .book) (accepted a .0) (held a)))
+    let s = r .before .before in
+    asked-found (now (s .args .bytes)) (s .args .condition) _ (told a) (r .read .result .book) (r .read .ensures .1) (t .if1 .taken) _
 
 is-met-requires : tie.Need-is-met-requires
-is-met-requires c κs =
-    let a = c .before .before .before .before in
-    let f = found (c .before) in
-    record {
-      book = accepted a .0;
-      condition = f .0;
-      bookHeld = held a;
-      conditionHeld = f .2;
-      bookRange = range a;
-      conditionRange = each-condition (ConditionInRange _) (accepted a .0 .conditions) _ (f .0) (range a .conditions) (f .1);
-    }
+is-met-requires c κs = found (c .before) .kept
 
 enum-known-answer-2 : tie.Need-enum-known-answer-2
 enum-known-answer-2 c = search needs
@@ -83,34 +61,35 @@ returns : tie.Need-returns
 returns c =
     let m = c .before in
     let b = m .before .before in
-    let a = b .before .before .before in
-    let s = a .before .before .before .before in
+    let s = b .before .before .before .before .before .before .before in
     let f = found b in
-    condition-decided (now (s .args .bytes)) (s .args .condition) (s .args .set) (accepted a .0) (accepted a .1) (f .0) (f .1) _
-    (sym (c .if2 .taken) ∙ m .is-met .ensures (accepted a .0) (f .0) (held a) (f .2))
+    let k = f .kept in
+    decided-answer (now (s .args .bytes)) (s .args .condition) (s .args .set) (k .book) (k .condition) (f .told) _
+    (sym (c .if2 .taken) ∙ m .is-met .ensures (k .book) (k .condition) (k .bookHeld) (k .conditionHeld))
 
 returns-2 : tie.Need-returns-2
 returns-2 c =
     let m = c .before in
     let b = m .before .before in
-    let a = b .before .before .before in
-    let s = a .before .before .before .before in
+    let s = b .before .before .before .before .before .before .before in
     let f = found b in
-    condition-decided (now (s .args .bytes)) (s .args .condition) (s .args .set) (accepted a .0) (accepted a .1) (f .0) (f .1) _
-    (sym (c .if2 .left) ∙ m .is-met .ensures (accepted a .0) (f .0) (held a) (f .2))
+    let k = f .kept in
+    decided-answer (now (s .args .bytes)) (s .args .condition) (s .args .set) (k .book) (k .condition) (f .told) _
+    (sym (c .if2 .left) ∙ m .is-met .ensures (k .book) (k .condition) (k .bookHeld) (k .conditionHeld))
 
 returns-3 : tie.Need-returns-3
 returns-3 c =
     let a = c .before .before in
     let s = a .before .before .before .before in
-    no-such-condition (now (s .args .bytes)) (s .args .condition) (s .args .set) (accepted a .0) (accepted a .1) (omega (arith, c .if1 .left, accepted a .2))
+    refused-answer (now (s .args .bytes)) (s .args .condition) (s .args .set) _ _ (asked-none (now (s .args .bytes)) (s .args .condition) _ (told a) (c .if1 .left))
 
 returns-4 : tie.Need-returns-4
 returns-4 c =
     let a = c .before in
     let r = a .before .before in
     let s = r .before .before in
-    book-refused (now (s .args .bytes)) (s .args .condition) (s .args .set) _ _ (ap checkedMeaning (sym (a .answer2 .given .1)) ∙ r .read .ensures .0)
+    refused-answer (now (s .args .bytes)) (s .args .condition) (s .args .set) _ _
+    (asked-refused (now (s .args .bytes)) (s .args .condition) _ _ (ap checkedMeaning (sym (a .answer2 .given .1)) ∙ r .read .ensures .0))
 
 pub decide-spec : {M : Type 1} → statement M
 decide-spec =

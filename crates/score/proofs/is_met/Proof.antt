@@ -7,7 +7,7 @@ use mir.Val.{SFits}
 use mir.ValLaws.{toZ-ofZ}
 use Rattle.peal.specs.Score.{score, meets, decision}
 use Rattle.peal.specs.declared.Sense.{Sense}
-use Rattle.score.proofs.NodeLaws.{sense-is, threshold-is}
+use Rattle.book.proofs.StoredNodes.{sense-is, threshold-is}
 use Rattle.score.proofs.is_met.Statement.{statement}
 use Rattle.score.proofs.is_met.Tie as tie
 

@@ -9,8 +9,9 @@ use Rattle.peal.specs.Policies.{Condition, Book, policyAt}
 use Rattle.book.specs.Stored.{storedCondition, storedBook}
 use Rattle.book.proofs.RangeLaws.{policy-in-range}
 use Rattle.book.proofs.StoredLaws.{opened-is, policy-at}
+use Rattle.book.proofs.StoredNodes.{nodes-are, nodes-few, mention-below}
 use Rattle.score.specs.ExpressionScores.{Underway}
-use Rattle.score.proofs.NodeLaws.{nodes-are, nodes-few, join-here, value-here, mention-below, at-start, value-room, after-value, join-room, after-join, at-end}
+use Rattle.score.proofs.NodeLaws.{join-here, value-here, at-start, value-room, after-value, join-room, after-join, at-end}
 use Rattle.score.proofs.expressions.expression_score.Statement.{statement}
 use Rattle.score.proofs.expressions.expression_score.Tie as tie
 
@@ -29,9 +30,7 @@ loop-holds c = (omega arith, λ k d e f. at-start (k .policies) (c .before .args
 
 -- the codes are at most 31
 codes-few : (c : tie.Start Inv-loop μ-loop) → c .args .t2 .length ≤ 31
-codes-few c =
-    let h : length (c .args .t2 .codes) ≡ 31 = search needs in
-    nodes-few (c .args .t2) (c .pre .condition) (c .pre .conditionHeld) h
+codes-few c = nodes-few (c .args .t2) (c .pre .condition) (c .pre .conditionHeld) (c .pre .conditionRange .mentionsRoom)
 
 mul-code : tie.Need-mul-code Inv-loop μ-loop
 mul-code c = omega (arith, c .loop-test .taken, codes-few (c .before .before .before))

@@ -1,0 +1,97 @@
+-- From node to node of a kept condition: what has been counted, and what has been written.
+use Prim.Native.Nat.{ℕ, _+_, _-_, _≤_, _<_}
+use mathlib.Core.Bool.{Bool}
+use mathlib.Core.List.{List, []}
+use mathlib.Core.Logic.{⊎-elim}
+use mathlib.Core.Path.{_≡_, refl, sym, ap, ap₂, _∙_}
+use native.Mathlib.Omega.{arith}
+use lib.Dec.{ltb}
+use lib.ListN.{length, getD, set, drop, length-drop, drop-of-length-le}
+use lib.Seq.{getD-set-same, getD-set-other}
+use borrow.Author.Tests.{lt-ltb, le-ltb}
+use Rattle.arith.proofs.Order.{le-or-lt}
+use Rattle.layout.specs.Nodes.{ListedNode, nodeRecords, listing}
+use Rattle.peal.specs.Translation.{listingRecords}
+use Rattle.book.specs.Ranges.{ConditionKept}
+use Rattle.book.specs.declared.stored.Condition.{Condition as StoredCondition}
+use Rattle.book.specs.declared.stored.Book.{Book as StoredBook}
+use Rattle.compiler.specs.Putting.{putRecords}
+use Rattle.compiler.specs.Nodes.{linesIn, oneNode, nodesOf, nodeAt}
+use Rattle.compiler.proofs.NodeLaws.{count-cons, put-cons}
+use Rattle.compiler.proofs.KeptNodes.{nodes-count, node-here}
+
+-- the cells below i hold the values of f; one more does
+pub cells-more : (f : ℕ → ℕ) (cells : List ℕ) (i x : ℕ) → i < length cells → ((j : ℕ) → j < i → getD cells j 0 ≡ f j) → x ≡ f i
+    → (j : ℕ) → j < i + 1 → getD (set cells i x) j 0 ≡ f j
+cells-more f cells i x room below e j h = ⊎-elim here other (le-or-lt i j)
+  where
+    here : i ≤ j → getD (set cells i x) j 0 ≡ f j
+    here l = let s : i ≡ j = omega arith in ap (λ (n : ℕ). getD (set cells i x) n 0) (sym s) ∙ getD-set-same cells i x 0 room ∙ e ∙ ap f s
+
+    other : j < i → getD (set cells i x) j 0 ≡ f j
+    other l = getD-set-other cells i j x 0 (λ s. omega arith) ∙ below j l
+
+module _ (b : StoredBook) (c : StoredCondition) (k : ConditionKept b c) where
+  abbrev nodes : List ListedNode
+  nodes = nodesOf (k .book) (k .condition)
+
+  -- the records so far and those of the nodes from i on are the listing's
+  abbrev pub CountedTo : ℕ → ℕ → Type 0
+  CountedTo i records = records + length (nodeRecords (1 + records) (drop i nodes)) ≡ length (listingRecords (k .book) (k .condition))
+
+  -- writing the records of the nodes from i on, as records n and more, makes what writing the listing makes
+  abbrev pub WrittenTo : ℕ → ℕ → (lent words : List ℕ) → Type 0
+  WrittenTo i n lent words = putRecords words n (nodeRecords n (drop i nodes)) ≡ putRecords lent 1 (listingRecords (k .book) (k .condition))
+
+  pub count-start : CountedTo 0 0
+  unfolding listingRecords listing nodesOf
+  count-start = let e : length (nodeRecords 1 nodes) ≡ length (listingRecords (k .book) (k .condition)) = refl in omega arith
+
+  pub put-start : (lent : List ℕ) → WrittenTo 0 1 lent lent
+  unfolding listingRecords listing nodesOf
+  put-start lent = refl
+
+  module _ (i : ℕ) (l : c .length ≤ i) where
+    none-left : drop i nodes ≡ []
+    none-left = drop-of-length-le nodes {i = i} (omega (arith, nodes-count b c k))
+
+    pub count-end : (records : ℕ) → CountedTo i records → records ≡ length (listingRecords (k .book) (k .condition))
+    unfolding nodeRecords
+    count-end records e =
+        let none : length (nodeRecords (1 + records) (drop i nodes)) ≡ 0 = ap (λ (ns : List ListedNode). length (nodeRecords (1 + records) ns)) none-left in
+        omega arith
+
+    pub put-end : (n : ℕ) (lent words : List ℕ) → WrittenTo i n lent words → words ≡ putRecords lent 1 (listingRecords (k .book) (k .condition))
+    unfolding putRecords nodeRecords
+    put-end n lent words e = sym (ap (λ (ns : List ListedNode). putRecords words n (nodeRecords n ns)) none-left) ∙ e
+
+  -- node i has x lines
+  module _ (i : ℕ) (h : i < c .length) (x : ℕ) (counted : x ≡ linesIn (nodeAt (k .book) (k .condition) i)) where
+    abbrev node : ListedNode
+    node = nodeAt (k .book) (k .condition) i
+
+    abbrev rest : List ListedNode
+    rest = drop (i + 1) nodes
+
+    pub count-turn : (records : ℕ) → CountedTo i records → CountedTo (i + 1) (records + (1 + x))
+    count-turn records e =
+        let n : 1 + records + 1 + linesIn node ≡ 1 + (records + (1 + x)) = omega arith in
+        let size = ap (λ (ns : List ListedNode). length (nodeRecords (1 + records) ns)) (node-here b c k i h) ∙ count-cons (1 + records) node rest in
+        omega (arith, e, counted, size, ap (λ (m : ℕ). length (nodeRecords m rest)) n)
+
+    more-nodes : ltb 0 (length rest) ≡ ltb (i + 1) (c .length)
+    more-nodes =
+        let size : length rest ≡ c .length - (i + 1) = length-drop (i + 1) nodes ∙ ap (λ (n : ℕ). n - (i + 1)) (nodes-count b c k) in
+        ⊎-elim
+        (λ (l : c .length ≤ i + 1). le-ltb 0 (length rest) (omega arith) ∙ sym (le-ltb (i + 1) (c .length) l))
+        (λ (l : i + 1 < c .length). lt-ltb 0 (length rest) (omega arith) ∙ sym (lt-ltb (i + 1) (c .length) l))
+        (le-or-lt (c .length) (i + 1))
+
+    pub put-turn : (n : ℕ) (lent words later : List ℕ) → later ≡ putRecords words n (oneNode n (ltb (i + 1) (c .length)) node)
+        → WrittenTo i n lent words → WrittenTo (i + 1) (n + (1 + x)) lent later
+    put-turn n lent words later f e =
+        let m : n + (1 + x) ≡ n + 1 + linesIn node = omega arith in
+        ap (λ (w : List ℕ). putRecords w (n + (1 + x)) (nodeRecords (n + (1 + x)) rest)) f
+        ∙ ap₂ (λ (more : Bool) (y : ℕ). putRecords (putRecords words n (oneNode n more node)) y (nodeRecords y rest)) (sym more-nodes) m
+        ∙ sym (ap (λ (ns : List ListedNode). putRecords words n (nodeRecords n ns)) (node-here b c k i h) ∙ put-cons n node rest words)
+        ∙ e

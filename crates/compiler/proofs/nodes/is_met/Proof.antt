@@ -1,0 +1,38 @@
+-- `compiler::nodes::is_met`: hundredths are compared as they are.
+use Prim.Native.Nat.{_^_}
+use mathlib.Core.Path.{sym, ap, ap₂, _∙_}
+use native.Mathlib.Omega.{arith}
+use borrow.Author.Needs.{needs}
+use lib.Signed.{leZ, ltZ}
+use mir.Syntax.{w32}
+use mir.ValLaws.{toZ-ofZ}
+use Rattle.arith.proofs.Order.{leZ-scale, ltZ-scale}
+use Rattle.peal.specs.Score.{scaled, meets}
+use Rattle.peal.specs.declared.Sense.{Sense}
+use Rattle.compiler.proofs.nodes.is_met.Statement.{statement}
+use Rattle.compiler.proofs.nodes.is_met.Tie as tie
+
+enum-told : tie.Need-enum-told
+enum-told c = search needs
+
+enum-told-2 : tie.Need-enum-told-2
+enum-told-2 c = search needs
+
+returns : tie.Need-returns
+unfolding meets scaled
+returns c =
+    let s = c .before .before in
+    let a = s .args in
+    ap₂ ltZ (toZ-ofZ w32 (a .t) (s .fits .t)) (toZ-ofZ w32 (a .d) (s .fits .d)) ∙ sym (ltZ-scale (a .t) (a .d) (10 ^ 14) (omega arith))
+    ∙ ap (λ (x : Sense). meets x (a .t) (scaled (a .d))) (sym (c .enum-told .given .1))
+
+returns-2 : tie.Need-returns-2
+unfolding meets scaled
+returns-2 c =
+    let s = c .before .before in
+    let a = s .args in
+    ap₂ leZ (toZ-ofZ w32 (a .d) (s .fits .d)) (toZ-ofZ w32 (a .t) (s .fits .t)) ∙ sym (leZ-scale (a .d) (a .t) (10 ^ 14) (omega arith))
+    ∙ ap (λ (x : Sense). meets x (a .t) (scaled (a .d))) (sym (c .enum-told2 .given .1))
+
+pub is-met-spec : {M : Type 1} → statement M
+is-met-spec = tie.close (tie.spec enum-told enum-told-2 returns returns-2)

@@ -1,0 +1,62 @@
+-- The records of a condition's nodes one by one, as the code counts and writes them (document 01, "From condition to listing").
+use Prim.Native.Nat.{ℕ, _+_, _<_}
+use mathlib.Core.Bool.{Bool, cond}
+use mathlib.Core.List.{List, [], _∷_}
+use mathlib.Core.Path.{_≡_}
+use lib.IntN.{ℤ}
+use lib.ListN.{length, getD}
+use Rattle.arith.specs.Trees.{Node, value, joining, postfix}
+use Rattle.layout.specs.Records.{Record, joinKind, policyKind}
+use Rattle.layout.specs.Judgement.{ifAny}
+use Rattle.layout.specs.Nodes.{ListedNode, lineRecords}
+use Rattle.peal.specs.Policies.{Policy, MinMax, smaller, Condition, Book, policyAt}
+use Rattle.peal.specs.Lines.{lines}
+use Rattle.peal.specs.Translation.{joinOf, listed, translated}
+use Rattle.book.specs.Ranges.{PolicyInRange, ConditionKept}
+use Rattle.book.specs.Stored.{storedPolicy}
+use Rattle.book.specs.declared.stored.Policy.{Policy as StoredPolicy}
+use Rattle.book.specs.declared.stored.Condition.{Condition as StoredCondition}
+use Rattle.book.specs.declared.stored.Book.{Book as StoredBook}
+use Rattle.compiler.specs.Planning.{ThresholdFits}
+
+-- how many lines a node has: a join has none
+unfoldable pub linesIn : ListedNode → ℕ
+linesIn (value p) = length (p .lines)
+linesIn (joining j) = 0
+
+-- the records of one node, the first of which is record n; `more` tells whether a node follows
+unfoldable pub oneNode : ℕ → Bool → ListedNode → List Record
+oneNode n more (value p) =
+    record {
+      kind = policyKind (p .quiet) (p .turned);
+      mask = p .mask;
+      lines = ifAny (p .lines) (n + 1);
+      next = cond more (n + 1 + length (p .lines)) 0;
+    }
+    ∷ lineRecords (n + 1) (p .lines)
+oneNode n more (joining j) = record { kind = joinKind j; mask = 0; lines = 0; next = cond more (n + 1) 0 } ∷ []
+
+-- what a node of a condition's expression becomes
+unfoldable pub listedNode : Book → Condition → Node MinMax ℕ → ListedNode
+listedNode b c (value n) = value (listed (c .sense) (c .threshold) (policyAt (b .policies) n))
+listedNode b c (joining m) = joining (joinOf (c .sense) m)
+
+-- the nodes of a condition's listing, and node i of them
+unfoldable pub nodesOf : Book → Condition → List ListedNode
+nodesOf b c = postfix (translated (b .policies) c)
+
+unfoldable pub nodeAt : Book → Condition → ℕ → ListedNode
+nodeAt b c i = listedNode b c (getD (postfix (c .expression)) i (joining smaller))
+
+-- the stored policy is that of one in range, which has so many lines under threshold t
+pub record LinesKept (p : StoredPolicy) (t : ℤ) (count : ℕ) : Type 0 where
+  pub policy : Policy
+  pub held : p ≡ storedPolicy policy
+  pub range : PolicyInRange policy
+  pub fits : ThresholdFits t
+  pub counted : count ≡ length (lines (policy .operator) t (policy .rules))
+
+-- 31 cells hold how many lines each node has
+pub record CountsKept (b : StoredBook) (c : StoredCondition) (counts : List ℕ) : Type 0 where
+  pub room : length counts ≡ 31
+  pub each : (h : ConditionKept b c) (i : ℕ) → i < c .length → getD counts i 0 ≡ linesIn (nodeAt (h .book) (h .condition) i)
