@@ -31,7 +31,7 @@ use Rattle.agreement.proofs.Policies.{signals-fit}
 use Rattle.agreement.proofs.Conditions.{policy-in-range, tree}
 use Rattle.agreement.proofs.Books.{scored-result, book-agreement}
 use Rattle.agreement.proofs.LineMasks.{masks-minimal}
-use Rattle.agreement.proofs.Compiled.{compiled-from}
+use Rattle.compiler.proofs.CompiledLaws.{compiled-from}
 
 -- ---- the answers
 

@@ -3,7 +3,6 @@ pub mod Conditions
 pub mod Words
 pub mod Books
 pub mod LineMasks
-pub mod Compiled
 pub mod Demand3
 pub mod Readings
 pub mod Examples

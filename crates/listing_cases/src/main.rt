@@ -4,6 +4,12 @@
 //   choice W W ..         the choice check
 //   compare W .. / W ..   the comparison
 // A line that begins with # is copied.
+use printing::print;
+use printing::print_choice;
+use printing::print_fault;
+use printing::print_number;
+use printing::print_rod;
+use vectors::line_end;
 ghost use Prim.Native.Nat.{_≤_};
 ghost use mathlib.Core.Path.{_≡_};
 ghost use lib.ListN.{length};
@@ -100,50 +106,10 @@ fn numbers(line: &[u8], words: &mut [u32]) -> Scan
     ended(s, 32, words)
 }
 
-fn print(text: &[u8]) {
-    io::write_all(libc::STDOUT_FILENO, text);
-}
-
-fn print_number(n: u64) {
-    io::print_decimal(libc::STDOUT_FILENO, n);
-}
-
-fn print_fault(fault: layout::Fault) {
-    match fault {
-        layout::Fault::Length => print(b"refused 9 0"),
-        layout::Fault::Record(n) => {
-            print(b"refused 10 ");
-            print_number(n as u64);
-        }
-    }
-}
-
 fn print_verdict(v: layout::Verdict) {
     match v {
         layout::Verdict::Sound => print(b"sound"),
         layout::Verdict::Declined(fault) => print_fault(fault),
-    }
-}
-
-fn print_decision(d: rod::Decision) {
-    match d {
-        rod::Decision::Yes => print(b"yes"),
-        rod::Decision::No => print(b"no"),
-        rod::Decision::Declined(fault) => print_fault(fault),
-    }
-}
-
-fn print_choice(c: checks::ChoiceAnswer) {
-    match c {
-        checks::ChoiceAnswer::Always => print(b"always"),
-        checks::ChoiceAnswer::Never => print(b"never"),
-        checks::ChoiceAnswer::Both(yes, no) => {
-            print(b"both ");
-            print_number(yes as u64);
-            print(b" ");
-            print_number(no as u64);
-        }
-        checks::ChoiceAnswer::Declined(fault) => print_fault(fault),
     }
 }
 
@@ -180,7 +146,7 @@ fn run_command(first: u8, fourth: u8, words: &[u32], split: usize)
     } else if first == 99 {
         print_choice(checks::choice(words));
     } else if words.len() > 0 {
-        print_decision(rod::decide(&words[1..], (words[0] % 65536) as u16));
+        print_rod(rod::decide(&words[1..], (words[0] % 65536) as u16));
     }
     print(b"\n");
 }
@@ -206,21 +172,6 @@ fn run_line(line: &[u8]) {
     }
     let mut space = [0u32; 512];
     run_stored(line, &mut space);
-}
-
-// The index of the first line end from index `at` on, or the length.
-fn line_end(text: &[u8], at: usize) -> usize
-    requires { ⌜ at ≤ length (now text) ⌝ }
-    ensures { λ r. ⌜ (at ≤ r) × (r ≤ length (now (text .entry))) ⌝ }
-{
-    let mut i = at;
-    while i < text.len() {
-        if text[i] == 10 {
-            return i;
-        }
-        i += 1;
-    }
-    i
 }
 
 fn run_lines(text: &[u8]) {

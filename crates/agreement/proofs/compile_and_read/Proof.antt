@@ -4,7 +4,7 @@ use borrow.Author.Needs.{needs}
 use denote.Ref.{now}
 use lib.Seq.{length-take-le}
 use Rattle.compiler.specs.Meaning.{compiledMeaning}
-use Rattle.agreement.proofs.Compiled.{CompiledFrom, compiled-from}
+use Rattle.compiler.proofs.CompiledLaws.{CompiledFrom, returned-from}
 use Rattle.agreement.proofs.Readings.{reading-by, reading-first}
 use Rattle.agreement.proofs.compile_and_read.Statement.{statement}
 use Rattle.agreement.proofs.compile_and_read.Tie as tie
@@ -20,7 +20,7 @@ made : (c : tie.After-c) → let s = c .before .before .before .before .before .
     CompiledFrom (now (s .args .bytes)) (s .args .condition) (now (s .args .words)) (c .c .given .0 .0)
 made c =
     let x = c .before .before .before .before in
-    compiled-from _ _ _ _ (sym (x .compile .ensures .0) ∙ ap compiledMeaning (c .c .given .1))
+    returned-from _ _ _ _ (x .compile .result) (x .compile .ensures .0) (c .c .given .1)
 
 mul-end : tie.Need-mul-end
 mul-end c = let h = made (c .before) .room in search needs

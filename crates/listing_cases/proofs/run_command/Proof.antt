@@ -56,8 +56,8 @@ cast-decide c = search needs
 decide-requires : tie.Need-decide-requires
 decide-requires c κs = search needs
 
-print-decision-requires : tie.Need-print-decision-requires
-print-decision-requires c κs = search needs
+print-rod-requires : tie.Need-print-rod-requires
+print-rod-requires c κs = search needs
 
 slice-aggregate-print : tie.Need-slice-aggregate-print
 slice-aggregate-print c = search needs
@@ -89,7 +89,7 @@ run-command-spec =
     shared-slice-read-decide
     cast-decide
     decide-requires
-    print-decision-requires
+    print-rod-requires
     slice-aggregate-print
     print-requires
     returns)

@@ -7,7 +7,6 @@ use Rattle.score.specs.Pairs.{Is, choiceMeaning}
 use Rattle.score.proofs.PairLaws.{choice-in-order, choice-not-in-order}
 use Rattle.score.proofs.exact.chosen.Statement.{statement}
 use Rattle.score.proofs.exact.chosen.Tie as tie
-use Rattle.score.proofs.exact.in_order.Reads as in-order-reads
 
 in-order-requires : tie.Need-in-order-requires
 in-order-requires c κs = search needs

@@ -1,29 +1,29 @@
--- `book_cases::put_line_ends`: a store leaves the length as it was.
+-- `compile_cases::put_marks`: a store leaves the length as it was.
 use Prim.Native.Nat.{_-_}
 use mathlib.Core.Path.{_≡_}
 use native.Mathlib.Omega.{arith}
 use lib.ListN.{length, length-set}
 use borrow.Author.Needs.{needs}
-use Rattle.book_cases.proofs.put_line_ends.Statement.{statement}
-use Rattle.book_cases.proofs.put_line_ends.Tie as tie
+use Rattle.compile_cases.proofs.put_marks.Statement.{statement}
+use Rattle.compile_cases.proofs.put_marks.Tie as tie
 
 abbrev Inv-loop : tie.InvT-loop
-Inv-loop text₀ i₀ text i = length text ≡ length text₀
+Inv-loop words₀ i₀ words i = length words ≡ length words₀
 
 abbrev μ-loop : tie.MeasureT-loop
-μ-loop text₀ i₀ text i = length text - i
+μ-loop words₀ i₀ words i = length words - i
 
 loop-holds : tie.Need-loop-holds Inv-loop μ-loop
 loop-holds c = search needs
 
-slice-read-book-byte : tie.Need-slice-read-book-byte Inv-loop μ-loop
-slice-read-book-byte c = search needs
+mark-requires : tie.Need-mark-requires Inv-loop μ-loop
+mark-requires c κs = search needs
 
-book-byte-requires : tie.Need-book-byte-requires Inv-loop μ-loop
-book-byte-requires c κs = search needs
+mul-words : tie.Need-mul-words Inv-loop μ-loop
+mul-words c = search needs
 
-slice-write-text : tie.Need-slice-write-text Inv-loop μ-loop
-slice-write-text c = search needs
+slice-write-words : tie.Need-slice-write-words Inv-loop μ-loop
+slice-write-words c = search needs
 
 add-i : tie.Need-add-i Inv-loop μ-loop
 add-i c = search needs
@@ -40,16 +40,16 @@ same-length c = search needs
 returns : tie.Need-returns Inv-loop μ-loop
 returns c = search needs
 
-pub put-line-ends-spec : {M : Type 1} → statement M
-put-line-ends-spec =
+pub put-marks-spec : {M : Type 1} → statement M
+put-marks-spec =
     tie.close
     (tie.spec
     Inv-loop
     μ-loop
     loop-holds
-    slice-read-book-byte
-    book-byte-requires
-    slice-write-text
+    mark-requires
+    mul-words
+    slice-write-words
     add-i
     loop-less
     loop-again

@@ -14,7 +14,10 @@ use Rattle.layout.proofs.Soundness.{length-words}
 use Rattle.peal.specs.Policies.{Condition, Book}
 use Rattle.peal.specs.Translation.{listingRecords}
 use Rattle.book.specs.Books.{asked}
 use Rattle.compiler.specs.Compiling.{fitting, compiled, returned, lentAfter, compiledListing}
+use Rattle.compiler.specs.Meaning.{compiledMeaning}
+use Rattle.compiler.specs.declared.Compiled.{Compiled}
+use Rattle.compiler.specs.declared.Compiled.the-variants.{Records}
 
 -- the condition's listing, which had room
 pub record CompiledFrom (bytes : List ℕ) (number : ℕ) (lent : List ℕ) (n : ℕ) : Type 0 where
@@ -46,3 +49,8 @@ compiled-from bytes number lent n e =
           ap (λ (x : Answer (List Record)). compiledListing n (lentAfter lent x)) (f ∙ sym same)
           ∙ listing-first (listingRecords b c) n lent (ap length (result-is same) ∙ result-is k);
     }
+
+-- the same, from the promise of `compile` about what it returned
+pub returned-from : (bytes : List ℕ) (number : ℕ) (lent : List ℕ) (n : ℕ) (r : Compiled) → compiledMeaning r ≡ returned (compiled bytes number (length lent)) → r ≡ Records n
+    → CompiledFrom bytes number lent n
+returned-from bytes number lent n r promised e = compiled-from bytes number lent n (sym promised ∙ ap compiledMeaning e)

@@ -1,9 +1,9 @@
--- `book_cases::behind`: the index stays in the word, which is no longer than the line.
+-- `vectors::behind`: the index stays in the word, which is no longer than the line.
 use Prim.Native.Nat.{_-_, _≤_}
 use lib.ListN.{length}
 use borrow.Author.Needs.{needs}
-use Rattle.book_cases.proofs.behind.Statement.{statement}
-use Rattle.book_cases.proofs.behind.Tie as tie
+use Rattle.vectors.proofs.behind.Statement.{statement}
+use Rattle.vectors.proofs.behind.Tie as tie
 
 abbrev Inv-loop : tie.InvT-loop
 Inv-loop line word i₀ i = (i ≤ length word) × (length word ≤ length line)

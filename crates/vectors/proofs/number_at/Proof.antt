@@ -1,9 +1,9 @@
--- `book_cases::number_at`: the index stays in the line.
+-- `vectors::number_at`: the index stays in the line.
 use Prim.Native.Nat.{_-_, _≤_}
 use lib.ListN.{length}
 use borrow.Author.Needs.{needs}
-use Rattle.book_cases.proofs.number_at.Statement.{statement}
-use Rattle.book_cases.proofs.number_at.Tie as tie
+use Rattle.vectors.proofs.number_at.Statement.{statement}
+use Rattle.vectors.proofs.number_at.Tie as tie
 
 abbrev Inv-loop : tie.InvT-loop
 Inv-loop line at value₀ i₀ value i = i ≤ length line

@@ -1,9 +1,9 @@
--- `book_cases::line_end`: the index stays between the start and the length.
+-- `vectors::line_end`: the index stays between the start and the length.
 use Prim.Native.Nat.{_-_, _≤_}
 use lib.ListN.{length}
 use borrow.Author.Needs.{needs}
-use Rattle.book_cases.proofs.line_end.Statement.{statement}
-use Rattle.book_cases.proofs.line_end.Tie as tie
+use Rattle.vectors.proofs.line_end.Statement.{statement}
+use Rattle.vectors.proofs.line_end.Tie as tie
 
 abbrev Inv-loop : tie.InvT-loop
 Inv-loop text at i₀ i = (at ≤ i) × (i ≤ length text)

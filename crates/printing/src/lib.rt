@@ -1,0 +1,71 @@
+// The answers of the calls on standard output, in document 01's words and numbers, for the programs. No line end is added.
+pub fn print(text: &[u8]) {
+    io::write_all(libc::STDOUT_FILENO, text);
+}
+
+pub fn print_number(n: u64) {
+    io::print_decimal(libc::STDOUT_FILENO, n);
+}
+
+pub fn print_refused(number: u64, value: u64) {
+    print(b"refused ");
+    print_number(number);
+    print(b" ");
+    print_number(value);
+}
+
+fn reason_number(reason: book::Reason) -> u64 {
+    match reason {
+        book::Reason::TooLong => 1,
+        book::Reason::NoForm => 2,
+        book::Reason::OutOfPlace => 3,
+        book::Reason::TooMany => 4,
+        book::Reason::OutOfRange => 5,
+        book::Reason::Repeated => 6,
+    }
+}
+
+pub fn print_refusal(refusal: book::Refusal) {
+    let reason = refusal.reason;
+    print_refused(reason_number(reason), refusal.line as u64);
+}
+
+pub fn print_fault(fault: layout::Fault) {
+    match fault {
+        layout::Fault::Length => print_refused(9, 0),
+        layout::Fault::Record(n) => print_refused(10, n as u64),
+    }
+}
+
+fn print_both(yes: u16, no: u16) {
+    print(b"both ");
+    print_number(yes as u64);
+    print(b" ");
+    print_number(no as u64);
+}
+
+pub fn print_choice(c: checks::ChoiceAnswer) {
+    match c {
+        checks::ChoiceAnswer::Always => print(b"always"),
+        checks::ChoiceAnswer::Never => print(b"never"),
+        checks::ChoiceAnswer::Both(yes, no) => print_both(yes, no),
+        checks::ChoiceAnswer::Declined(fault) => print_fault(fault),
+    }
+}
+
+pub fn print_rod(d: rod::Decision) {
+    match d {
+        rod::Decision::Yes => print(b"yes"),
+        rod::Decision::No => print(b"no"),
+        rod::Decision::Declined(fault) => print_fault(fault),
+    }
+}
+
+pub fn print_score(d: score::Decision) {
+    match d {
+        score::Decision::Yes => print(b"yes"),
+        score::Decision::No => print(b"no"),
+        score::Decision::Refused(refusal) => print_refusal(refusal),
+        score::Decision::NoCondition => print_refused(7, 0),
+    }
+}
