@@ -5,7 +5,7 @@ use mathlib.Core.List.{List, [], _∷_, _++_, map, append-assoc, append-nil, map
 use mathlib.Core.Path.{_≡_, refl, sym, ap, ap₂, subst, _∙_}
 use native.Mathlib.Nat.{le-trans, pow-suc, pow-le-pow-right}
 use native.Mathlib.Omega.{arith}
-use lib.IntN.{ℤ, pos, negsuc, negℤ, _+ℤ_, +ℤ-idr}
+use lib.IntN.{ℤ, pos, negsuc, negℤ, +ℤ-idr}
 use lib.ListN.{length, getD, length-append}
 use lib.Signed.{mag, leZ}
 use mir.Syntax.{w64}
@@ -122,7 +122,7 @@ range-taken o X Y h =
 
 -- ---- what the plan tells of rules that are taken and still to come
 
-module _ (op : Operator) (plan : List ℤ) (x : Taken) (left : ℕ) (q : Policy) (t : ℤ) (X : List Rule) (h : Searching op plan x left q t X) where
+module _ {op : Operator} {plan : List ℤ} {x : Taken} {left : ℕ} {q : Policy} {t : ℤ} {X : List Rule} (h : Searching op plan x left q t X) where
   abbrev o : Operator
   o = q .operator
 
@@ -155,19 +155,19 @@ module _ (op : Operator) (plan : List ℤ) (x : Taken) (left : ℕ) (q : Policy)
       }
 
   -- a limit and a value tell whether rules Y have the property
-  tells : (Y : List Rule) → RulesInRange o Y → (k : ℕ) → k ≡ length Y → k ≤ length (q .rules) → (l v : ℤ) → l ≡ getD plan (k * 4) (pos 0) → v ≡ worth o Y
+  tells : (Y : List Rule) → RulesInRange o Y → (k : ℕ) → k ≡ length Y → k ≤ length (q .rules) → {l v : ℤ} → l ≡ getD plan (k * 4) (pos 0) → v ≡ worth o Y
       → reachedOf op l v ≡ has o t Y
-  tells Y r k e i l v f g =
+  tells Y r k e i {l} {v} f g =
       ap (λ (p : Operator). reachedOf p l v) (h .planned .operator)
       ∙ ap₂ (reachedOf o) (f ∙ h .planned .rows k i .limit ∙ ap (limitOf o t) e) g
       ∙ worth-has o t Y (range-fits o Y (r .scores) (r .room)) (h .planned .fits)
 
   -- the rules taken
-  pub taken-tells : (l v : ℤ) → l ≡ getD plan (x .count * 4) (pos 0) → v ≡ x .value → reachedOf op l v ≡ has o t X
-  taken-tells l v f g = tells X taken-range (x .count) (h .taken .count) (omega (arith, h .inside, h .taken .count)) l v f (g ∙ h .taken .value)
+  pub taken-tells : {l v : ℤ} → l ≡ getD plan (x .count * 4) (pos 0) → v ≡ x .value → reachedOf op l v ≡ has o t X
+  taken-tells f g = tells X taken-range (x .count) (h .taken .count) (omega (arith, h .inside, h .taken .count)) f (g ∙ h .taken .value)
 
   -- these and the rules still to come
-  module _ (v w : ℤ) (g : v ≡ x .value) (e : w ≡ getD plan (left * 4 + 1) (pos 0)) where
+  module _ {v w : ℤ} (g : v ≡ x .value) (e : w ≡ getD plan (left * 4 + 1) (pos 0)) where
     pub all-worth : combinedOf op v w ≡ worth o all
     all-worth =
         ap (λ (p : Operator). combinedOf p v w) (h .planned .operator)
@@ -177,8 +177,8 @@ module _ (op : Operator) (plan : List ℤ) (x : Taken) (left : ℕ) (q : Policy)
     pub all-small : mag (combinedOf op v w) ≤ 10 ^ 16
     all-small = subst (λ (z : ℤ). mag z ≤ 10 ^ 16) (sym all-worth) (worth-small o all (h .range))
 
-    pub all-tell : (l z : ℤ) → l ≡ getD plan ((x .count + left) * 4) (pos 0) → z ≡ combinedOf op v w → reachedOf op l z ≡ has o t all
-    all-tell l z f k = tells all (h .range) (x .count + left) all-count (omega (arith, h .inside, h .taken .count)) l z f (k ∙ all-worth)
+    pub all-tell : {l z : ℤ} → l ≡ getD plan ((x .count + left) * 4) (pos 0) → z ≡ combinedOf op v w → reachedOf op l z ≡ has o t all
+    all-tell f k = tells all (h .range) (x .count + left) all-count (omega (arith, h .inside, h .taken .count)) f (k ∙ all-worth)
 
 -- ---- the search, by whether the property is there
 
@@ -228,12 +228,12 @@ from-few property X (r ∷ rest) = go (from-few property (X ++ (r ∷ [])) rest)
 
 -- ---- the beginning: no rule is taken
 
-module _ (op : Operator) (plan : List ℤ) (q : Policy) (t : ℤ) (h : PlanFor op plan q t) (n : ℕ) (all : n ≡ length (q .rules)) where
+module _ {op : Operator} {plan : List ℤ} {q : Policy} {t : ℤ} (h : PlanFor op plan q t) {n : ℕ} (all : n ≡ length (q .rules)) where
   all-coming : restOf n (q .rules) ≡ q .rules
   all-coming = ap (λ (k : ℕ). restOf k (q .rules)) all ∙ all-rest (q .rules)
 
-  pub beginning : (x : Taken) → IsTaken x op [] → Searching op plan x n q t []
-  beginning x i =
+  pub beginning : {x : Taken} → IsTaken x op [] → Searching op plan x n q t []
+  beginning {x} i =
       record {
         planned = h;
         taken = subst (λ (o : Operator). IsTaken x o []) (h .operator) i;
@@ -253,7 +253,7 @@ module _ (op : Operator) (plan : List ℤ) (q : Policy) (t : ℤ) (h : PlanFor o
 
 -- ---- one step, with rules still to come
 
-module _ (op : Operator) (plan : List ℤ) (x : Taken) (left : ℕ) (q : Policy) (t : ℤ) (X : List Rule) (some-left : 0 < left) (h : Searching op plan x left q t X) where
+module _ {op : Operator} {plan : List ℤ} {x : Taken} {left : ℕ} {q : Policy} {t : ℤ} {X : List Rule} (some-left : 0 < left) (h : Searching op plan x left q t X) where
   abbrev next : Rule
   next = nextRule q left
 
@@ -278,8 +278,8 @@ module _ (op : Operator) (plan : List ℤ) (x : Taken) (left : ℕ) (q : Policy)
   left-out = record { planned = h .planned; taken = h .taken; inside = omega (arith, h .inside); range = range-without (q .operator) X next after range }
 
   -- the rule is taken
-  pub taken-in : (y : Taken) → IsTaken y (q .operator) (X ++ (next ∷ [])) → Searching op plan y (left - 1) q t (X ++ (next ∷ []))
-  taken-in y i =
+  pub taken-in : {y : Taken} → IsTaken y (q .operator) (X ++ (next ∷ [])) → Searching op plan y (left - 1) q t (X ++ (next ∷ []))
+  taken-in i =
       record { planned = h .planned; taken = i; inside = omega (arith, h .inside, length-append X (next ∷ [])); range = range-with (q .operator) X next after range }
 
   -- what the plan has of it
@@ -299,7 +299,7 @@ module _ (op : Operator) (plan : List ℤ) (x : Taken) (left : ℕ) (q : Policy)
   pub next-count : x .count + 1 ≡ length (X ++ (next ∷ []))
   next-count = omega (arith, h .taken .count, length-append X (next ∷ []))
 
-  module _ (v w : ℤ) (e : v ≡ x .value) (f : w ≡ getD plan (left * 4 + 2) (pos 0)) where
+  module _ {v w : ℤ} (e : v ≡ x .value) (f : w ≡ getD plan (left * 4 + 2) (pos 0)) where
     pub next-worth : combinedOf op v w ≡ worth (q .operator) (X ++ (next ∷ []))
     next-worth =
         ap (λ (o : Operator). combinedOf o v w) (h .planned .operator)

@@ -1,6 +1,6 @@
 -- `compiler::nodes::next_lines`: the lines of an earlier node with the same code, or those that are counted.
 use Prim.Native.Nat.{_-_, _≤_, _<_}
-use mathlib.Core.Path.{_≡_, _∙_}
+use mathlib.Core.Path.{_∙_}
 use native.Mathlib.Omega.{arith}
 use borrow.Author.Needs.{needs}
 use Rattle.compiler.proofs.KeptNodes.{kept-length, same-lines}

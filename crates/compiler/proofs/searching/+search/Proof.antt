@@ -95,7 +95,7 @@ returns t c =
     × (l .before .loop .words ≡ putSets (s .args .last) (now (s .args .words)) (s .args .at) (found q T X (s .args .rank))) =
     λ q T X h k.
     let u = l .before .loop .inv .3 q T X h k in
-    out-of-reach (s .args .o) (now (s .args .plan)) (s .args .x) q T X (s .args .last) _ _ (l .before .loop .words) (l .before .loop .next) (l .before .loop .left) u k (l .loop-test .taken)
+    out-of-reach u k (l .loop-test .taken)
     (sym (c .before .can-reach .ensures q T X (u .here)) ∙ not-true _ (c .if1 .taken)) in
     (λ q T X h k. over q T X h k .0, λ q T X h k. over q T X h k .1)
 
@@ -113,7 +113,7 @@ module _ (t : ℕ) (c : lts.After-with-rule (calls t) (search-at t) search′.Po
   abbrev first : lts.Start (calls t) (search-at t) search′.Post Inv-loop μ-loop
   first = start t turn
 
-  module _ (q : Policy) (T : ℤ) (X : List Rule) (number : ℕ) (target : List ℕ)
+  module _ {q : Policy} {T : ℤ} {X : List Rule} {number : ℕ} {target : List ℕ}
       (u : Underway (first .args .o) (now (first .args .plan)) (first .args .x) q T X (first .args .last) number target (turn .before .loop .words) (turn .before .loop .next) (turn .before .loop .left))
       (k : has (q .operator) T X ≡ false) where
     reach : has (q .operator) T (X ++ restOf (turn .before .loop .left) (q .rules)) ≡ true
@@ -124,17 +124,17 @@ module _ (t : ℕ) (c : lts.After-with-rule (calls t) (search-at t) search′.Po
 
     pub searched : Searching (first .args .o) (now (first .args .plan)) (c .with-rule .result) (turn .before .loop .left - 1) q T (X ++ (nextRule q (turn .before .loop .left) ∷ []))
     searched =
-        taken-here (first .args .o) (now (first .args .plan)) (first .args .x) q T X (first .args .last) number target (turn .before .loop .words) (turn .before .loop .next) (turn .before .loop .left) u k
-        (turn .loop-test .taken) reach (c .with-rule .result) taken
+        taken-here u k
+        (turn .loop-test .taken) reach taken
 
     tested : Searching (first .args .o) (now (first .args .plan)) (c .with-rule .result) 0 q T (X ++ (nextRule q (turn .before .loop .left) ∷ []))
-    tested = none-coming (first .args .o) (now (first .args .plan)) (c .with-rule .result) (turn .before .loop .left - 1) q T (X ++ (nextRule q (turn .before .loop .left) ∷ [])) searched
+    tested = none-coming searched
 
 has-reached-requires : (t : ℕ) → lts.Need-has-reached-requires (calls t) (search-at t) search′.Post Inv-loop μ-loop
 has-reached-requires t c κs =
     let s = first t c in
     let a = asked t s in
-    (a .0, a .1, a .2 ++ (nextRule (a .0) (turn t c .before .loop .left) ∷ []), tested t c (a .0) (a .1) (a .2) _ _ (underway-here t (turn t c)) (a .4))
+    (a .0, a .1, a .2 ++ (nextRule (a .0) (turn t c .before .loop .left) ∷ []), tested t c (underway-here t (turn t c)) (a .4))
 
 put-line-requires : (t : ℕ) → lts.Need-put-line-requires (calls t) (search-at t) search′.Post Inv-loop μ-loop
 put-line-requires t c κs =
@@ -147,9 +147,9 @@ put-line-requires t c κs =
       omega (
         arith,
         a .5,
-        line-room (s .args .o) (now (s .args .plan)) (s .args .x) (a .0) (a .1) (a .2) (s .args .last) _ _ (l .before .loop .words) (l .before .loop .next) (l .before .loop .left) u (a .4) (l .loop-test .taken)
-            (reach t w (a .0) (a .1) (a .2) _ _ u (a .4)) (w .with-rule .result) (taken t w (a .0) (a .1) (a .2) _ _ u (a .4))
-            (sym (c .before .before .has-reached .ensures (a .0) (a .1) _ (tested t w (a .0) (a .1) (a .2) _ _ u (a .4))) ∙ c .before .if2 .taken),
+        line-room u (a .4) (l .loop-test .taken)
+            (reach t w u (a .4)) (taken t w u (a .4))
+            (sym (c .before .before .has-reached .ensures (a .0) (a .1) _ (tested t w u (a .4))) ∙ c .before .if2 .taken),
       ),
     )
 
@@ -170,9 +170,9 @@ loop-again t c =
       ap length (p .put-line .ensures) ∙ put-length (l .before .loop .words) (l .before .loop .next) _ ∙ l .before .loop .inv .2,
       λ q T X h k.
           let u = l .before .loop .inv .3 q T X h k in
-          line-passed (s .args .o) (now (s .args .plan)) (s .args .x) q T X (s .args .last) _ _ (l .before .loop .words) (l .before .loop .next) (l .before .loop .left) u k (l .loop-test .taken)
-          (reach t w q T X _ _ u k) (w .with-rule .result) (taken t w q T X _ _ u k)
-          (sym (p .before .before .before .has-reached .ensures q T _ (tested t w q T X _ _ u k)) ∙ p .before .before .if2 .taken) _ (p .put-line .ensures),
+          line-passed u k (l .loop-test .taken)
+          (reach t w u k) (taken t w u k)
+          (sym (p .before .before .before .has-reached .ensures q T _ (tested t w u k)) ∙ p .before .before .if2 .taken) (p .put-line .ensures),
     )
 
 search-requires : (t : ℕ) → lts.Need-search-requires (calls t) (search-at t) search′.Post Inv-loop μ-loop
@@ -182,8 +182,8 @@ search-requires t c κs =
     let s = first t w in
     let a = asked t s in
     let u = underway-here t l in
-    let r = reach t w (a .0) (a .1) (a .2) _ _ u (a .4) in
-    let y = taken t w (a .0) (a .1) (a .2) _ _ u (a .4) in (
+    let r = reach t w u (a .4) in
+    let y = taken t w u (a .4) in (
       omega (arith, l .loop-test .taken, l .before .loop .inv .0, s .pre .0),
       (
         omega (arith, s .pre .1 .0, l .before .loop .inv .1),
@@ -191,9 +191,9 @@ search-requires t c κs =
           a .0,
           a .1,
           a .2 ++ (nextRule (a .0) (l .before .loop .left) ∷ []),
-          searched t w (a .0) (a .1) (a .2) _ _ u (a .4),
-          sym (c .before .before .has-reached .ensures (a .0) (a .1) _ (tested t w (a .0) (a .1) (a .2) _ _ u (a .4))) ∙ c .before .if2 .left,
-          omega (arith, a .5, room (s .args .o) (now (s .args .plan)) (s .args .x) (a .0) (a .1) (a .2) (s .args .last) _ _ (l .before .loop .words) (l .before .loop .next) (l .before .loop .left) u (a .4) (l .loop-test .taken) r (w .with-rule .result) y),
+          searched t w u (a .4),
+          sym (c .before .before .has-reached .ensures (a .0) (a .1) _ (tested t w u (a .4))) ∙ c .before .if2 .left,
+          omega (arith, a .5, room u (a .4) (l .loop-test .taken) r y),
         ),
       ),
     )
@@ -212,17 +212,17 @@ module _ (t : ℕ) (c : lts.After-search (calls t) (search-at t) search′.Post 
   abbrev s : lts.Start (calls t) (search-at t) search′.Post Inv-loop μ-loop
   s = first t taking
 
-  module _ (q : Policy) (T : ℤ) (X : List Rule) (number : ℕ) (target : List ℕ)
+  module _ {q : Policy} {T : ℤ} {X : List Rule} {number : ℕ} {target : List ℕ}
       (u : Underway (s .args .o) (now (s .args .plan)) (s .args .x) q T X (s .args .last) number target (this .before .loop .words) (this .before .loop .next) (this .before .loop .left))
       (k : has (q .operator) T X ≡ false) where
     abbrev Y : List Rule
     Y = X ++ (nextRule q (this .before .loop .left) ∷ [])
 
     lacking : has (q .operator) T Y ≡ false
-    lacking = sym (c .before .before .before .has-reached .ensures q T Y (tested t taking q T X number target u k)) ∙ c .before .before .if2 .left
+    lacking = sym (c .before .before .before .has-reached .ensures q T Y (tested t taking u k)) ∙ c .before .before .if2 .left
 
     behind : c .search .result ≡ this .before .loop .next + length (found q T Y (this .before .loop .left - 1))
-    behind = c .search .ensures .0 q T Y (searched t taking q T X number target u k) lacking
+    behind = c .search .ensures .0 q T Y (searched t taking u k) lacking
 
 loop-again-2 : (t : ℕ) → lts.Need-loop-again-2 (calls t) (search-at t) search′.Post Inv-loop μ-loop
 unfolding putSets
@@ -234,13 +234,13 @@ loop-again-2 t c =
     let a = asked t f in
     let v = underway-here t l in (
       omega (arith, l .before .loop .inv .0),
-      omega (arith, l .before .loop .inv .1, behind t p (a .0) (a .1) (a .2) _ _ v (a .4)),
-      ap length (p .search .ensures .1 (a .0) (a .1) _ (searched t w (a .0) (a .1) (a .2) _ _ v (a .4)) (lacking t p (a .0) (a .1) (a .2) _ _ v (a .4))) ∙ puts-length (l .before .loop .words) (l .before .loop .next) _ ∙ l .before .loop .inv .2,
+      omega (arith, l .before .loop .inv .1, behind t p v (a .4)),
+      ap length (p .search .ensures .1 (a .0) (a .1) _ (searched t w v (a .4)) (lacking t p v (a .4))) ∙ puts-length (l .before .loop .words) (l .before .loop .next) _ ∙ l .before .loop .inv .2,
       λ q T X h k.
           let u = l .before .loop .inv .3 q T X h k in
-          passed (f .args .o) (now (f .args .plan)) (f .args .x) q T X (f .args .last) _ _ (l .before .loop .words) (l .before .loop .next) (l .before .loop .left) u k (l .loop-test .taken)
-          (reach t w q T X _ _ u k) (w .with-rule .result) (taken t w q T X _ _ u k) (p .search .result) _ (behind t p q T X _ _ u k)
-          (p .search .ensures .1 q T _ (searched t w q T X _ _ u k) (lacking t p q T X _ _ u k)),
+          passed u k (l .loop-test .taken)
+          (reach t w u k) (taken t w u k) (behind t p u k)
+          (p .search .ensures .1 q T _ (searched t w u k) (lacking t p u k)),
     )
 
 same-length-2 : (t : ℕ) → lts.Need-same-length-2 (calls t) (search-at t) search′.Post Inv-loop μ-loop
@@ -255,7 +255,7 @@ returns-2 t c =
     → (l .loop .next ≡ s .args .at + length (found q T X (s .args .rank)))
     × (l .loop .words ≡ putSets (s .args .last) (now (s .args .words)) (s .args .at) (found q T X (s .args .rank))) =
     λ q T X h k.
-    no-rule-left (s .args .o) (now (s .args .plan)) (s .args .x) q T X (s .args .last) _ _ (l .loop .words) (l .loop .next) (l .loop .left) (l .loop .inv .3 q T X h k) k (c .loop-test .left) in
+    no-rule-left (l .loop .inv .3 q T X h k) k (c .loop-test .left) in
     (λ q T X h k. over q T X h k .0, λ q T X h k. over q T X h k .1)
 
 pub +search-spec : {M : Type 1} → statement M

@@ -16,11 +16,11 @@ use Rattle.compiler.proofs.searching.can_reach.Tie as tie
 
 -- of what is asked for
 few : (s : tie.Start) → s .args .x .count + s .args .left ≤ 16
-few s = taken-few (s .args .o) (now (s .args .plan)) (s .args .x) (s .args .left) (s .pre .0) (s .pre .1) (s .pre .2) (s .pre .3)
+few s = taken-few (s .pre .3)
 
 value-back : (s : tie.Start) → toZ w64 (ofZ w64 (s .args .x .value)) ≡ s .args .x .value
 value-back s =
-    toZ-ofZ w64 (s .args .x .value) (taken-fits (s .args .o) (now (s .args .plan)) (s .args .x) (s .args .left) (s .pre .0) (s .pre .1) (s .pre .2) (s .pre .3))
+    toZ-ofZ w64 (s .args .x .value) (taken-fits (s .pre .3))
 
 add-all : tie.Need-add-all
 add-all c = record { fits = omega (arith, few (c .before)) }
@@ -49,7 +49,7 @@ shared-slice-copy-out-rest c = let s = c .before .before in omega (arith, few s,
 combined-requires : tie.Need-combined-requires
 combined-requires c κs =
     let s = c .before .before .before .before in
-    all-small (s .args .o) (now (s .args .plan)) (s .args .x) (s .args .left) (s .pre .0) (s .pre .1) (s .pre .2) (s .pre .3) _ _ (value-back s)
+    all-small (s .pre .3) (value-back s)
     (toZ-ofZ w64 (getD (now (s .args .plan)) (s .args .left * 4 + 1) (pos 0)) (record { sfits = c .before .rest .given }))
 
 is-reached-requires : tie.Need-is-reached-requires
@@ -64,8 +64,8 @@ returns c q t X h =
     let s = r .before .before .before in
     let fits : SFits w64 (d .combined .result) = search needs in
     c .is-reached .ensures
-    ∙ all-tell (s .args .o) (now (s .args .plan)) (s .args .x) (s .args .left) q t X h _ _ (value-back s)
-    (toZ-ofZ w64 (getD (now (s .args .plan)) (s .args .left * 4 + 1) (pos 0)) (record { sfits = r .rest .given })) _ _
+    ∙ all-tell h (value-back s)
+    (toZ-ofZ w64 (getD (now (s .args .plan)) (s .args .left * 4 + 1) (pos 0)) (record { sfits = r .rest .given }))
     (toZ-ofZ w64 (getD (now (s .args .plan)) ((s .args .x .count + s .args .left) * 4) (pos 0)) (record { sfits = r .before .limit .given }))
     (toZ-ofZ w64 (d .combined .result) fits ∙ d .combined .ensures)
 

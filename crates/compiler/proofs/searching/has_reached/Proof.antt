@@ -15,10 +15,10 @@ use Rattle.compiler.proofs.searching.has_reached.Tie as tie
 
 -- of what is asked for
 few : (s : tie.Start) → s .args .x .count ≤ 16
-few s = omega (arith, taken-few (s .args .o) (now (s .args .plan)) (s .args .x) 0 (s .pre .0) (s .pre .1) (s .pre .2) (s .pre .3))
+few s = omega (arith, taken-few (s .pre .3))
 
 value-back : (s : tie.Start) → toZ w64 (ofZ w64 (s .args .x .value)) ≡ s .args .x .value
-value-back s = toZ-ofZ w64 (s .args .x .value) (taken-fits (s .args .o) (now (s .args .plan)) (s .args .x) 0 (s .pre .0) (s .pre .1) (s .pre .2) (s .pre .3))
+value-back s = toZ-ofZ w64 (s .args .x .value) (taken-fits (s .pre .3))
 
 mul-limit : tie.Need-mul-limit
 mul-limit c = record { fits = omega (arith, few c) }
@@ -32,13 +32,13 @@ shared-slice-copy-out-limit c = omega (arith, few c, c .pre .3 .planned .long)
 is-reached-requires : tie.Need-is-reached-requires
 is-reached-requires c κs =
     let s = c .before .before in
-    subst (λ (z : ℤ). mag z ≤ 10 ^ 16) (sym (value-back s)) (taken-small (s .args .o) (now (s .args .plan)) (s .args .x) 0 (s .pre .0) (s .pre .1) (s .pre .2) (s .pre .3))
+    subst (λ (z : ℤ). mag z ≤ 10 ^ 16) (sym (value-back s)) (taken-small (s .pre .3))
 
 returns : tie.Need-returns
 returns c q t X h =
     let s = c .before .before .before in
     c .is-reached .ensures
-    ∙ taken-tells (s .args .o) (now (s .args .plan)) (s .args .x) 0 q t X h _ _
+    ∙ taken-tells h
     (toZ-ofZ w64 (getD (now (s .args .plan)) (s .args .x .count * 4) (pos 0)) (record { sfits = c .before .before .limit .given })) (value-back s)
 
 pub has-reached-spec : {M : Type 1} → statement M

@@ -74,19 +74,19 @@ module _ (c : tie.After-none-taken) where
     plan-for = c .before .planned .ensures ranked held (ranked-in-range q r)
 
     begun : Searching (p .operator) plan (c .none-taken .result) (p .count) ranked T []
-    begun = beginning (p .operator) plan ranked T plan-for (p .count) (count-is p ranked held) (c .none-taken .result) (c .none-taken .ensures)
+    begun = beginning plan-for (count-is p ranked held) (c .none-taken .ensures)
 
     tested : Searching (p .operator) plan (c .none-taken .result) 0 ranked T []
-    tested = none-coming (p .operator) plan (c .none-taken .result) (p .count) ranked T [] begun
+    tested = none-coming begun
 
     few : length (found ranked T [] (p .count)) ≤ 65536
-    few = found-few (p .operator) plan ranked T plan-for (p .count) (count-is p ranked held)
+    few = found-few plan-for (count-is p ranked held)
 
     -- what is found, as document 01 has it
     are-lines : found ranked T [] (p .count) ≡ lines (q .operator) (s .args .t) (q .rules)
     unfolding inRankOrder withRules
     are-lines =
-        all-found (p .operator) plan ranked T plan-for (p .count) (count-is p ranked held)
+        all-found plan-for (count-is p ranked held)
         ∙ ap (λ (t : ℤ). foundSets (has (q .operator) t) (ranked .rules)) (back s)
         ∙ search-finds-lines (q .operator) (s .args .t) (q .rules) (range-fits (q .operator) (q .rules) (r .scores) (r .room))
 

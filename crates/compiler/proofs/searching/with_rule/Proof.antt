@@ -22,11 +22,11 @@ use Rattle.compiler.proofs.searching.with_rule.Tie as tie
 
 -- of what is asked for
 few : (s : tie.Start) → s .args .x .count + s .args .left ≤ 16
-few s = taken-few (s .args .o) (now (s .args .plan)) (s .args .x) (s .args .left) (s .pre .1 .0) (s .pre .1 .1) (s .pre .1 .2) (s .pre .1 .3)
+few s = taken-few (s .pre .1 .3)
 
 value-back : (s : tie.Start) → toZ w64 (ofZ w64 (s .args .x .value)) ≡ s .args .x .value
 value-back s =
-    toZ-ofZ w64 (s .args .x .value) (taken-fits (s .args .o) (now (s .args .plan)) (s .args .x) (s .args .left) (s .pre .1 .0) (s .pre .1 .1) (s .pre .1 .2) (s .pre .1 .3))
+    toZ-ofZ w64 (s .args .x .value) (taken-fits (s .pre .1 .3))
 
 mul-score : tie.Need-mul-score
 mul-score c = record { fits = omega (arith, few c) }
@@ -53,25 +53,25 @@ shared-slice-copy-out-bit : tie.Need-shared-slice-copy-out-bit
 shared-slice-copy-out-bit c = omega (arith, few (c .before), c .before .pre .1 .3 .planned .long)
 
 -- the rule's bit is read back
-bit-is : (c : tie.After-bit) (q : Policy) (t : ℤ) (X : List Rule) → Searching (c .before .before .args .o) (now (c .before .before .args .plan)) (c .before .before .args .x) (c .before .before .args .left) q t X
+bit-is : (c : tie.After-bit) {q : Policy} {t : ℤ} {X : List Rule} → Searching (c .before .before .args .o) (now (c .before .before .args .plan)) (c .before .before .args .x) (c .before .before .args .left) q t X
     → toZ w64 (ofZ w64 (getD (now (c .before .before .args .plan)) (c .before .before .args .left * 4 + 3) (pos 0))) ≡ pos (setOf (nextRule q (c .before .before .args .left) .signal ∷ []))
-bit-is c q t X h =
+bit-is c h =
     let s = c .before .before in
     toZ-ofZ w64 (getD (now (s .args .plan)) (s .args .left * 4 + 3) (pos 0)) (record { sfits = c .bit .given })
-    ∙ next-bit (s .args .o) (now (s .args .plan)) (s .args .x) (s .args .left) q t X (s .pre .0) h
+    ∙ next-bit (s .pre .0) h
 
 small : (s : tie.Start) → s .args .x .mask + setOf (nextRule (s .pre .1 .0) (s .args .left) .signal ∷ []) < 2 ^ 32
-small s = next-mask-small (s .args .o) (now (s .args .plan)) (s .args .x) (s .args .left) (s .pre .1 .0) (s .pre .1 .1) (s .pre .1 .2) (s .pre .0) (s .pre .1 .3)
+small s = next-mask-small (s .pre .0) (s .pre .1 .3)
 
 cast-mask : tie.Need-cast-mask
 cast-mask c =
     let s = c .before .before in
-    subst (λ (z : ℤ). T (nonNeg z) × Fits w32 (natAbs z)) (sym (bit-is c (s .pre .1 .0) (s .pre .1 .1) (s .pre .1 .2) (s .pre .1 .3))) (tt, record { fits = omega (arith, small s) })
+    subst (λ (z : ℤ). T (nonNeg z) × Fits w32 (natAbs z)) (sym (bit-is c (s .pre .1 .3))) (tt, record { fits = omega (arith, small s) })
 
 add-mask : tie.Need-add-mask
 add-mask c =
     let s = c .before .before in
-    subst (λ (z : ℤ). Fits w32 (s .args .x .mask + natAbs z)) (sym (bit-is c (s .pre .1 .0) (s .pre .1 .1) (s .pre .1 .2) (s .pre .1 .3))) (record { fits = small s })
+    subst (λ (z : ℤ). Fits w32 (s .args .x .mask + natAbs z)) (sym (bit-is c (s .pre .1 .3))) (record { fits = small s })
 
 add-count : tie.Need-add-count
 add-count c = record { fits = omega (arith, few (c .before .before .before)) }
@@ -80,7 +80,7 @@ combined-requires : tie.Need-combined-requires
 combined-requires c κs =
     let b = c .before .before in
     let s = b .before .before in
-    next-small (s .args .o) (now (s .args .plan)) (s .args .x) (s .args .left) (s .pre .1 .0) (s .pre .1 .1) (s .pre .1 .2) (s .pre .0) (s .pre .1 .3) _ _ (value-back s)
+    next-small (s .pre .0) (s .pre .1 .3) (value-back s)
     (toZ-ofZ w64 (getD (now (s .args .plan)) (s .args .left * 4 + 2) (pos 0)) (record { sfits = b .before .score .given }))
 
 returns : tie.Need-returns
@@ -90,12 +90,12 @@ returns c q t X h =
     let fits : SFits w64 (c .combined .result) = search needs in
     record {
       mask =
-          ap (λ (z : ℤ). s .args .x .mask + natAbs z) (bit-is b q t X h)
-          ∙ next-mask (s .args .o) (now (s .args .plan)) (s .args .x) (s .args .left) q t X (s .pre .0) h;
-      count = next-count (s .args .o) (now (s .args .plan)) (s .args .x) (s .args .left) q t X (s .pre .0) h;
+          ap (λ (z : ℤ). s .args .x .mask + natAbs z) (bit-is b h)
+          ∙ next-mask (s .pre .0) h;
+      count = next-count (s .pre .0) h;
       value =
           toZ-ofZ w64 (c .combined .result) fits ∙ c .combined .ensures
-          ∙ next-worth (s .args .o) (now (s .args .plan)) (s .args .x) (s .args .left) q t X (s .pre .0) h _ _ (value-back s)
+          ∙ next-worth (s .pre .0) h (value-back s)
           (toZ-ofZ w64 (getD (now (s .args .plan)) (s .args .left * 4 + 2) (pos 0)) (record { sfits = b .before .score .given }));
     }
 
