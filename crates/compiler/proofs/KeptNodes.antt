@@ -138,3 +138,17 @@ module _ (b : StoredBook) (c : StoredCondition) (k : ConditionKept b c) where
 
         joined : code < 2 → linesIn thisNode ≤ 65536
         joined l = omega (arith, no-lines l)
+
+  -- nodes with the same code have as many lines
+  pub same-lines : (i j : ℕ) → i < c .length → j < c .length → getD (c .codes) j 0 ≡ getD (c .codes) i 0
+      → linesIn (nodeAt (k .book) (k .condition) j) ≡ linesIn (nodeAt (k .book) (k .condition) i)
+  same-lines i j h g e = ⊎-elim mention joined (le-or-lt 2 (getD (c .codes) i 0))
+    where
+      counted : ℕ → ℕ
+      counted n = let p = policyAt (k .book .policies) (n - 2) in length (lines (p .operator) (c .threshold) (p .rules))
+
+      mention : 2 ≤ getD (c .codes) i 0 → linesIn (nodeAt (k .book) (k .condition) j) ≡ linesIn (nodeAt (k .book) (k .condition) i)
+      mention l = mention-lines j g (omega (arith, e)) (c .threshold) refl ∙ ap counted e ∙ sym (mention-lines i h l (c .threshold) refl)
+
+      joined : getD (c .codes) i 0 < 2 → linesIn (nodeAt (k .book) (k .condition) j) ≡ linesIn (nodeAt (k .book) (k .condition) i)
+      joined l = no-lines j g (omega (arith, e)) ∙ sym (no-lines i h l)

@@ -8,9 +8,10 @@ use lib.IntN.{ℤ}
 use lib.ListN.{length, getD, drop, length-drop, drop-of-length-le}
 use lib.Seq.{drop-cons}
 use lib.Signed.{mag}
+use Rattle.arith.proofs.Each.{each-get}
 use Rattle.arith.proofs.Keep.{each-drop}
 use Rattle.arith.proofs.Signed.{mag-add}
-use Rattle.peal.specs.Policies.{Rule, smaller, larger, noRule}
+use Rattle.peal.specs.Policies.{Rule, Policy, smaller, larger, noRule}
 use Rattle.peal.specs.SearchFindsLines.{scoreFits}
 use Rattle.peal.specs.Combining.{combinedOf}
 use Rattle.peal.specs.declared.Operator.{Operator}
@@ -21,7 +22,7 @@ use Rattle.book.specs.declared.stored.Policy.{Policy as StoredPolicy}
 use Rattle.book.proofs.StoredRules.{count-is}
 use Rattle.book.proofs.ScoreSizes.{score-mag, two-mag, InScore, InRange, Room}
 use Rattle.compiler.specs.Worth.{start, worth}
-use Rattle.compiler.specs.Planning.{restOf, RulesInRange, RulesKept}
+use Rattle.compiler.specs.Planning.{restOf, nextRule, RulesInRange, RulesKept}
 use Rattle.compiler.proofs.WorthLaws.{product-worth}
 
 -- ---- how large the worth of rules is
@@ -99,6 +100,10 @@ range-rest o rules k h =
       few = omega (arith, n, h .few);
       room = λ m. omega (arith, n, h .room m);
     }
+
+pub next-signal : (q : Policy) (k : ℕ) → 0 < k → k ≤ length (q .rules) → RulesInRange (q .operator) (q .rules) → nextRule q k .signal < 16
+unfolding nextRule
+next-signal q k some inside h = each-get (λ (r : Rule). r .signal < 16) (q .rules) (length (q .rules) - k) noRule (h .signals) (omega arith)
 
 pub kept-room : {p : StoredPolicy} → RulesKept p → p .count ≤ 16
 kept-room {p} h = omega (arith, count-is p (h .policy) (h .held), h .range .few)

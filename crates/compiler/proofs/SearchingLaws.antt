@@ -1,11 +1,11 @@
 -- The search, step by step: a rule more among those taken, and what is found from there.
 use Prim.Native.Nat.{ℕ, suc, _+_, _-_, _*_, _^_, _≤_, _<_}
 use mathlib.Core.Bool.{Bool, true, false, cond}
-use mathlib.Core.List.{List, [], _∷_, _++_, map, append-assoc, map-append}
+use mathlib.Core.List.{List, [], _∷_, _++_, map, append-assoc, append-nil, map-append}
 use mathlib.Core.Path.{_≡_, refl, sym, ap, ap₂, subst, _∙_}
 use native.Mathlib.Nat.{le-trans, pow-suc, pow-le-pow-right}
 use native.Mathlib.Omega.{arith}
-use lib.IntN.{ℤ, pos, negsuc, negℤ, _+ℤ_, +ℤ-idr}
+use lib.IntN.{ℤ, pos, negsuc, negℤ, +ℤ-idr}
 use lib.ListN.{length, getD, length-append}
 use lib.Signed.{mag, leZ}
 use mir.Syntax.{w64}
@@ -26,11 +26,9 @@ use Rattle.peal.specs.declared.Operator.the-variants.{Min, Max, Sum, Mul}
 use Rattle.book.specs.Acceptance.{within, scoreInRange}
 use Rattle.peal.proofs.CombiningLaws.{small-fits}
 use Rattle.book.proofs.ScoreSizes.{InScore, range-fits}
-use Rattle.book.proofs.StoredRules.{count-is, operator-is, signal-at, score-at}
 use Rattle.compiler.specs.Worth.{start, worth, limitOf, reachedOf}
-use Rattle.compiler.specs.Planning.{restOf, RulesInRange, PlanFor}
-use Rattle.compiler.specs.Searching.{IsTaken, Searching, nextRule, found}
-use Rattle.compiler.specs.declared.planning.Plan.{Plan}
+use Rattle.compiler.specs.Planning.{restOf, nextRule, RulesInRange, Row, PlanFor}
+use Rattle.compiler.specs.Searching.{IsTaken, Searching, found}
 use Rattle.compiler.specs.declared.searching.Taken.{Taken}
 use Rattle.compiler.proofs.WorthLaws.{worth-has, worth-append}
 use Rattle.compiler.proofs.RestLaws.{no-rest, all-rest, more-rest, rest-length, worth-small}
@@ -124,7 +122,7 @@ range-taken o X Y h =
 
 -- ---- what the plan tells of rules that are taken and still to come
 
-module _ (plan : Plan) (x : Taken) (left : ℕ) (q : Policy) (t : ℤ) (X : List Rule) (h : Searching plan x left q t X) where
+module _ {op : Operator} {plan : List ℤ} {x : Taken} {left : ℕ} {q : Policy} {t : ℤ} {X : List Rule} (h : Searching op plan x left q t X) where
   abbrev o : Operator
   o = q .operator
 
@@ -137,41 +135,50 @@ module _ (plan : Plan) (x : Taken) (left : ℕ) (q : Policy) (t : ℤ) (X : List
   pub taken-few : x .count + left ≤ 16
   taken-few = omega (arith, all-count, h .range .few)
 
+  taken-range : RulesInRange o X
+  taken-range = range-taken o X (restOf left (q .rules)) (h .range)
+
   pub taken-small : mag (x .value) ≤ 10 ^ 16
-  taken-small = subst (λ (z : ℤ). mag z ≤ 10 ^ 16) (sym (h .taken .value)) (worth-small o X (range-taken o X (restOf left (q .rules)) (h .range)))
+  taken-small = subst (λ (z : ℤ). mag z ≤ 10 ^ 16) (sym (h .taken .value)) (worth-small o X taken-range)
 
   pub taken-fits : SFits w64 (x .value)
   taken-fits = small-fits (x .value) taken-small
 
-  op-is : plan .policy .operator ≡ o
-  op-is = operator-is (plan .policy) q (h .planned .held)
+  -- the same, with no rule still to come
+  pub none-coming : Searching op plan x 0 q t X
+  none-coming =
+      record {
+        planned = h .planned;
+        taken = h .taken;
+        inside = omega (arith, h .inside);
+        range = subst (λ (Y : List Rule). RulesInRange o (X ++ Y)) (sym (no-rest (q .rules))) (subst (RulesInRange o) (sym (append-nil X)) taken-range);
+      }
 
   -- a limit and a value tell whether rules Y have the property
-  tells : (Y : List Rule) → RulesInRange o Y → (k : ℕ) → k ≡ length Y → k ≤ length (q .rules) → (l v : ℤ) → l ≡ getD (plan .limits) k (pos 0) → v ≡ worth o Y
-      → reachedOf (plan .policy .operator) l v ≡ has o t Y
-  tells Y r k e i l v f g =
-      ap (λ (p : Operator). reachedOf p l v) op-is
-      ∙ ap₂ (reachedOf o) (f ∙ h .planned .limits k i ∙ ap (limitOf o t) e) g
+  tells : (Y : List Rule) → RulesInRange o Y → (k : ℕ) → k ≡ length Y → k ≤ length (q .rules) → {l v : ℤ} → l ≡ getD plan (k * 4) (pos 0) → v ≡ worth o Y
+      → reachedOf op l v ≡ has o t Y
+  tells Y r k e i {l} {v} f g =
+      ap (λ (p : Operator). reachedOf p l v) (h .planned .operator)
+      ∙ ap₂ (reachedOf o) (f ∙ h .planned .rows k i .limit ∙ ap (limitOf o t) e) g
       ∙ worth-has o t Y (range-fits o Y (r .scores) (r .room)) (h .planned .fits)
 
   -- the rules taken
-  pub taken-tells : (l v : ℤ) → l ≡ getD (plan .limits) (x .count) (pos 0) → v ≡ x .value → reachedOf (plan .policy .operator) l v ≡ has o t X
-  taken-tells l v f g =
-      tells X (range-taken o X (restOf left (q .rules)) (h .range)) (x .count) (h .taken .count) (omega (arith, h .inside, h .taken .count)) l v f (g ∙ h .taken .value)
+  pub taken-tells : {l v : ℤ} → l ≡ getD plan (x .count * 4) (pos 0) → v ≡ x .value → reachedOf op l v ≡ has o t X
+  taken-tells f g = tells X taken-range (x .count) (h .taken .count) (omega (arith, h .inside, h .taken .count)) f (g ∙ h .taken .value)
 
   -- these and the rules still to come
-  module _ (v w : ℤ) (g : v ≡ x .value) (e : w ≡ getD (plan .rests) left (pos 0)) where
-    pub all-worth : combinedOf (plan .policy .operator) v w ≡ worth o all
+  module _ {v w : ℤ} (g : v ≡ x .value) (e : w ≡ getD plan (left * 4 + 1) (pos 0)) where
+    pub all-worth : combinedOf op v w ≡ worth o all
     all-worth =
-        ap (λ (p : Operator). combinedOf p v w) op-is
-        ∙ ap₂ (combinedOf o) (g ∙ h .taken .value) (e ∙ h .planned .rests left (omega (arith, h .inside)))
+        ap (λ (p : Operator). combinedOf p v w) (h .planned .operator)
+        ∙ ap₂ (combinedOf o) (g ∙ h .taken .value) (e ∙ h .planned .rows left (omega (arith, h .inside)) .rest)
         ∙ sym (worth-append o X (restOf left (q .rules)))
 
-    pub all-small : mag (combinedOf (plan .policy .operator) v w) ≤ 10 ^ 16
+    pub all-small : mag (combinedOf op v w) ≤ 10 ^ 16
     all-small = subst (λ (z : ℤ). mag z ≤ 10 ^ 16) (sym all-worth) (worth-small o all (h .range))
 
-    pub all-tell : (l z : ℤ) → l ≡ getD (plan .limits) (x .count + left) (pos 0) → z ≡ combinedOf (plan .policy .operator) v w → reachedOf (plan .policy .operator) l z ≡ has o t all
-    all-tell l z f k = tells all (h .range) (x .count + left) all-count (omega (arith, h .inside, h .taken .count)) l z f (k ∙ all-worth)
+    pub all-tell : {l z : ℤ} → l ≡ getD plan ((x .count + left) * 4) (pos 0) → z ≡ combinedOf op v w → reachedOf op l z ≡ has o t all
+    all-tell f k = tells all (h .range) (x .count + left) all-count (omega (arith, h .inside, h .taken .count)) f (k ∙ all-worth)
 
 -- ---- the search, by whether the property is there
 
@@ -221,30 +228,32 @@ from-few property X (r ∷ rest) = go (from-few property (X ++ (r ∷ [])) rest)
 
 -- ---- the beginning: no rule is taken
 
-module _ (plan : Plan) (q : Policy) (t : ℤ) (h : PlanFor plan q t) where
-  all-coming : restOf (plan .policy .count) (q .rules) ≡ q .rules
-  all-coming = ap (λ (n : ℕ). restOf n (q .rules)) (count-is (plan .policy) q (h .held)) ∙ all-rest (q .rules)
+module _ {op : Operator} {plan : List ℤ} {q : Policy} {t : ℤ} (h : PlanFor op plan q t) {n : ℕ} (all : n ≡ length (q .rules)) where
+  all-coming : restOf n (q .rules) ≡ q .rules
+  all-coming = ap (λ (k : ℕ). restOf k (q .rules)) all ∙ all-rest (q .rules)
 
-  pub beginning : (x : Taken) → IsTaken x (q .operator) [] → Searching plan x (plan .policy .count) q t []
-  beginning x i =
+  pub beginning : {x : Taken} → IsTaken x op [] → Searching op plan x n q t []
+  beginning {x} i =
       record {
         planned = h;
-        taken = i;
-        inside = omega (arith, count-is (plan .policy) q (h .held));
+        taken = subst (λ (o : Operator). IsTaken x o []) (h .operator) i;
+        inside = omega arith;
         range = subst (RulesInRange (q .operator)) (sym all-coming) (h .range);
       }
 
-  pub all-found : found q t [] (plan .policy .count) ≡ foundSets (has (q .operator) t) (q .rules)
+  pub all-found : found q t [] n ≡ foundSets (has (q .operator) t) (q .rules)
   unfolding found foundSets
   all-found = ap (foundFrom (has (q .operator) t) []) all-coming
 
-  pub found-few : length (foundSets (has (q .operator) t) (q .rules)) ≤ 65536
-  unfolding foundSets
-  found-few = le-trans (from-few (has (q .operator) t) [] (q .rules)) (pow-le-pow-right {n = 2} (omega arith) (h .range .few))
+  pub found-few : length (found q t [] n) ≤ 65536
+  unfolding found
+  found-few =
+      let few : length (restOf n (q .rules)) ≤ 16 = omega (arith, ap length all-coming, h .range .few) in
+      le-trans (from-few (has (q .operator) t) [] (restOf n (q .rules))) (pow-le-pow-right {n = 2} (omega arith) few)
 
 -- ---- one step, with rules still to come
 
-module _ (plan : Plan) (x : Taken) (left : ℕ) (q : Policy) (t : ℤ) (X : List Rule) (some-left : 0 < left) (h : Searching plan x left q t X) where
+module _ {op : Operator} {plan : List ℤ} {x : Taken} {left : ℕ} {q : Policy} {t : ℤ} {X : List Rule} (some-left : 0 < left) (h : Searching op plan x left q t X) where
   abbrev next : Rule
   next = nextRule q left
 
@@ -261,55 +270,44 @@ module _ (plan : Plan) (x : Taken) (left : ℕ) (q : Policy) (t : ℤ) (X : List
   range : RulesInRange (q .operator) (X ++ (next ∷ after))
   range = subst (λ (Y : List Rule). RulesInRange (q .operator) (X ++ Y)) coming (h .range)
 
+  taken-range-next : RulesInRange (q .operator) (X ++ (next ∷ []))
+  taken-range-next = range-taken (q .operator) (X ++ (next ∷ [])) after (range-with (q .operator) X next after range)
+
   -- the rule is left out
-  pub left-out : Searching plan x (left - 1) q t X
+  pub left-out : Searching op plan x (left - 1) q t X
   left-out = record { planned = h .planned; taken = h .taken; inside = omega (arith, h .inside); range = range-without (q .operator) X next after range }
 
   -- the rule is taken
-  pub taken-in : (y : Taken) → IsTaken y (q .operator) (X ++ (next ∷ [])) → Searching plan y (left - 1) q t (X ++ (next ∷ []))
-  taken-in y i =
+  pub taken-in : {y : Taken} → IsTaken y (q .operator) (X ++ (next ∷ [])) → Searching op plan y (left - 1) q t (X ++ (next ∷ []))
+  taken-in i =
       record { planned = h .planned; taken = i; inside = omega (arith, h .inside, length-append X (next ∷ [])); range = range-with (q .operator) X next after range }
 
-  -- where the plan keeps it
-  pub next-inside : (left ≤ plan .policy .count) × (plan .policy .count ≤ 16)
-  next-inside = let n = count-is (plan .policy) q (h .planned .held) in (omega (arith, n, h .inside), omega (arith, n, h .planned .range .few))
+  -- what the plan has of it
+  row : Row plan q t left
+  row = h .planned .rows left (omega (arith, h .inside))
 
-  kept-at : getD (q .rules) (plan .policy .count - left) noRule ≡ next
-  unfolding nextRule
-  kept-at = ap (λ (n : ℕ). getD (q .rules) (n - left) noRule) (count-is (plan .policy) q (h .planned .held))
-
-  pub next-signal : getD (plan .policy .signals) (plan .policy .count - left) 0 ≡ next .signal
-  next-signal = signal-at (plan .policy) q (h .planned .held) (plan .policy .count - left) (omega (arith, next-inside .0)) ∙ ap (λ (r : Rule). r .signal) kept-at
-
-  next-score : getD (plan .policy .scores) (plan .policy .count - left) (pos 0) ≡ next .score
-  next-score = score-at (plan .policy) q (h .planned .held) (plan .policy .count - left) (omega (arith, next-inside .0)) ∙ ap (λ (r : Rule). r .score) kept-at
-
-  pub next-below : getD (plan .policy .signals) (plan .policy .count - left) 0 ≤ 15
-  next-below = omega (arith, next-signal, each-middle (λ (r : Rule). r .signal < 16) X next after (range .signals))
+  pub next-bit : getD plan (left * 4 + 3) (pos 0) ≡ pos (setOf (next .signal ∷ []))
+  next-bit = row .bit some-left
 
   -- the rules taken with it
-  pub next-mask : (b : ℕ) → b ≡ setOf (getD (plan .policy .signals) (plan .policy .count - left) 0 ∷ []) → x .mask + b ≡ maskOf (X ++ (next ∷ []))
-  next-mask b e = ap₂ (λ (m n : ℕ). m + n) (h .taken .mask) (e ∙ ap (λ (s : ℕ). setOf (s ∷ [])) next-signal) ∙ mask-more X next
+  pub next-mask : x .mask + setOf (next .signal ∷ []) ≡ maskOf (X ++ (next ∷ []))
+  next-mask = ap (λ (m : ℕ). m + setOf (next .signal ∷ [])) (h .taken .mask) ∙ mask-more X next
 
-  pub next-mask-small : (b : ℕ) → b ≡ setOf (getD (plan .policy .signals) (plan .policy .count - left) 0 ∷ []) → x .mask + b < 2 ^ 32
-  next-mask-small b e =
-      let r = range-taken (q .operator) (X ++ (next ∷ [])) after (range-with (q .operator) X next after range) in
-      omega (arith, next-mask b e, mask-small (X ++ (next ∷ [])) (r .signals), r .few)
+  pub next-mask-small : x .mask + setOf (next .signal ∷ []) < 2 ^ 32
+  next-mask-small = omega (arith, next-mask, mask-small (X ++ (next ∷ [])) (taken-range-next .signals), taken-range-next .few)
 
   pub next-count : x .count + 1 ≡ length (X ++ (next ∷ []))
   next-count = omega (arith, h .taken .count, length-append X (next ∷ []))
 
-  pub next-worth : (v w : ℤ) → v ≡ x .value → w ≡ getD (plan .policy .scores) (plan .policy .count - left) (pos 0)
-      → combinedOf (plan .policy .operator) v w ≡ worth (q .operator) (X ++ (next ∷ []))
-  next-worth v w e f =
-      ap (λ (o : Operator). combinedOf o v w) (operator-is (plan .policy) q (h .planned .held))
-      ∙ ap₂ (combinedOf (q .operator)) (e ∙ h .taken .value) (f ∙ next-score)
-      ∙ worth-more (q .operator) X next (each-middle (InScore (q .operator)) X next after (range .scores))
+  module _ {v w : ℤ} (e : v ≡ x .value) (f : w ≡ getD plan (left * 4 + 2) (pos 0)) where
+    pub next-worth : combinedOf op v w ≡ worth (q .operator) (X ++ (next ∷ []))
+    next-worth =
+        ap (λ (o : Operator). combinedOf o v w) (h .planned .operator)
+        ∙ ap₂ (combinedOf (q .operator)) (e ∙ h .taken .value) (f ∙ row .score some-left)
+        ∙ worth-more (q .operator) X next (each-middle (InScore (q .operator)) X next after (range .scores))
 
-  pub next-small : (v w : ℤ) → v ≡ x .value → w ≡ getD (plan .policy .scores) (plan .policy .count - left) (pos 0) → mag (combinedOf (plan .policy .operator) v w) ≤ 10 ^ 16
-  next-small v w e f =
-      subst (λ (z : ℤ). mag z ≤ 10 ^ 16) (sym (next-worth v w e f))
-      (worth-small (q .operator) (X ++ (next ∷ [])) (range-taken (q .operator) (X ++ (next ∷ [])) after (range-with (q .operator) X next after range)))
+    pub next-small : mag (combinedOf op v w) ≤ 10 ^ 16
+    next-small = subst (λ (z : ℤ). mag z ≤ 10 ^ 16) (sym next-worth) (worth-small (q .operator) (X ++ (next ∷ [])) taken-range-next)
 
   -- ---- what is found
 

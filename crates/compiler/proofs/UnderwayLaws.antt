@@ -9,10 +9,10 @@ use lib.ListN.{length, length-append, length-map}
 use Rattle.peal.specs.Policies.{Rule, Policy}
 use Rattle.peal.specs.Having.{has}
 use Rattle.peal.specs.Translation.{maskOf}
+use Rattle.peal.specs.declared.Operator.{Operator}
 use Rattle.compiler.specs.Putting.{putRecord, putRecords, lineAt, linesUpTo}
-use Rattle.compiler.specs.Planning.{restOf}
-use Rattle.compiler.specs.Searching.{IsTaken, Searching, nextRule, found}
-use Rattle.compiler.specs.declared.planning.Plan.{Plan}
+use Rattle.compiler.specs.Planning.{restOf, nextRule}
+use Rattle.compiler.specs.Searching.{IsTaken, Searching, found}
 use Rattle.compiler.specs.declared.searching.Taken.{Taken}
 use Rattle.compiler.proofs.PuttingLaws.{put-lines-append}
 use Rattle.compiler.proofs.SearchingLaws.{left-out, taken-in, nothing-found, found-further, found-itself, found-none}
@@ -22,8 +22,8 @@ unfoldable pub putSets : ℕ → List ℕ → ℕ → List (List Rule) → List 
 putSets last words n sets = putRecords words n (linesUpTo last n (map maskOf sets))
 
 -- with `left` rules still to come: what is found from here on leads to this number and these words
-pub record Underway (plan : Plan) (x : Taken) (q : Policy) (t : ℤ) (X : List Rule) (last number : ℕ) (target words : List ℕ) (n left : ℕ) : Type 0 where
-  pub here : Searching plan x left q t X
+pub record Underway (o : Operator) (plan : List ℤ) (x : Taken) (q : Policy) (t : ℤ) (X : List Rule) (last number : ℕ) (target words : List ℕ) (n left : ℕ) : Type 0 where
+  pub here : Searching o plan x left q t X
   pub numbers : n + length (found q t X left) ≡ number
   pub sets : putSets last words n (found q t X left) ≡ target
 
@@ -39,7 +39,8 @@ pub put-none : (last : ℕ) (words : List ℕ) (n : ℕ) → putSets last words 
 unfolding putSets linesUpTo putRecords
 put-none last words n = refl
 
-module _ (plan : Plan) (x : Taken) (q : Policy) (t : ℤ) (X : List Rule) (last number : ℕ) (target words : List ℕ) (n left : ℕ) (u : Underway plan x q t X last number target words n left) (lacks : has (q .operator) t X ≡ false) where
+module _ {o : Operator} {plan : List ℤ} {x : Taken} {q : Policy} {t : ℤ} {X : List Rule} {last number : ℕ} {target words : List ℕ} {n left : ℕ}
+    (u : Underway o plan x q t X last number target words n left) (lacks : has (q .operator) t X ≡ false) where
   -- nothing more is found
   ended : found q t X left ≡ [] → (n ≡ number) × (words ≡ target)
   ended e =
@@ -50,17 +51,17 @@ module _ (plan : Plan) (x : Taken) (q : Policy) (t : ℤ) (X : List Rule) (last 
 
   module _ (some-left : 0 < left) where
     pub out-of-reach : has (q .operator) t (X ++ restOf left (q .rules)) ≡ false → (n ≡ number) × (words ≡ target)
-    out-of-reach h = ended (nothing-found plan x left q t X some-left (u .here) lacks h)
+    out-of-reach h = ended (nothing-found some-left (u .here) lacks h)
 
-    module _ (reach : has (q .operator) t (X ++ restOf left (q .rules)) ≡ true) (y : Taken) (taken : IsTaken y (q .operator) (X ++ (nextRule q left ∷ []))) where
+    module _ (reach : has (q .operator) t (X ++ restOf left (q .rules)) ≡ true) {y : Taken} (taken : IsTaken y (q .operator) (X ++ (nextRule q left ∷ []))) where
       abbrev Y : List Rule
       Y = X ++ (nextRule q left ∷ [])
 
       further : found q t X left ≡ found q t Y (left - 1) ++ found q t X (left - 1)
-      further = found-further plan x left q t X some-left (u .here) lacks reach
+      further = found-further some-left (u .here) lacks reach
 
-      pub taken-here : Searching plan y (left - 1) q t Y
-      taken-here = taken-in plan x left q t X some-left (u .here) y taken
+      pub taken-here : Searching o plan y (left - 1) q t Y
+      taken-here = taken-in some-left (u .here) taken
 
       -- the sets found with the rule have numbers up to the last
       pub room : n + length (found q t Y (left - 1)) ≤ number
@@ -68,11 +69,11 @@ module _ (plan : Plan) (x : Taken) (q : Policy) (t : ℤ) (X : List Rule) (last 
           omega (arith, u .numbers, ap (λ (F : List (List Rule)). length F) further, length-append (found q t Y (left - 1)) (found q t X (left - 1)))
 
       -- they are put, and the rule is left out
-      pub passed : (m : ℕ) (after : List ℕ) → m ≡ n + length (found q t Y (left - 1)) → after ≡ putSets last words n (found q t Y (left - 1))
-          → Underway plan x q t X last number target after m (left - 1)
-      passed m after e f =
+      pub passed : {m : ℕ} {after : List ℕ} → m ≡ n + length (found q t Y (left - 1)) → after ≡ putSets last words n (found q t Y (left - 1))
+          → Underway o plan x q t X last number target after m (left - 1)
+      passed {m} {after} e f =
           record {
-            here = left-out plan x left q t X some-left (u .here);
+            here = left-out some-left (u .here);
             numbers =
                 omega (arith, e, u .numbers, ap (λ (F : List (List Rule)). length F) further, length-append (found q t Y (left - 1)) (found q t X (left - 1)));
             sets =
@@ -90,8 +91,8 @@ module _ (plan : Plan) (x : Taken) (q : Policy) (t : ℤ) (X : List Rule) (last 
         pub line-room : n + 1 ≤ number
         line-room = omega (arith, room, ap (λ (F : List (List Rule)). length F) one)
 
-        pub line-passed : (after : List ℕ) → after ≡ putRecord words n (lineAt last n (y .mask)) → Underway plan x q t X last number target after (n + 1) (left - 1)
+        pub line-passed : {after : List ℕ} → after ≡ putRecord words n (lineAt last n (y .mask)) → Underway o plan x q t X last number target after (n + 1) (left - 1)
         unfolding putSets linesUpTo putRecords
-        line-passed after f =
-            passed (n + 1) after (ap (λ (F : List (List Rule)). n + length F) (sym one))
+        line-passed f =
+            passed (ap (λ (F : List (List Rule)). n + length F) (sym one))
             (f ∙ ap (λ (m : ℕ). putRecord words n (lineAt last n m)) (taken .mask) ∙ ap (putSets last words n) (sym one))

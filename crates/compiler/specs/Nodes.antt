@@ -56,7 +56,11 @@ pub record LinesKept (p : StoredPolicy) (t : ℤ) (count : ℕ) : Type 0 where
   pub fits : ThresholdFits t
   pub counted : count ≡ length (lines (policy .operator) t (policy .rules))
 
--- 31 cells hold how many lines each node has
-pub record CountsKept (b : StoredBook) (c : StoredCondition) (counts : List ℕ) : Type 0 where
+-- 31 cells hold how many lines each of the first n nodes has
+pub record CountsUpTo (b : StoredBook) (c : StoredCondition) (counts : List ℕ) (n : ℕ) : Type 0 where
   pub room : length counts ≡ 31
-  pub each : (h : ConditionKept b c) (i : ℕ) → i < c .length → getD counts i 0 ≡ linesIn (nodeAt (h .book) (h .condition) i)
+  pub each : (h : ConditionKept b c) (i : ℕ) → i < n → getD counts i 0 ≡ linesIn (nodeAt (h .book) (h .condition) i)
+
+-- the same for all its nodes
+abbrev pub CountsKept : StoredBook → StoredCondition → List ℕ → Type 0
+CountsKept b c counts = CountsUpTo b c counts (c .length)

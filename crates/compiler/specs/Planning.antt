@@ -1,19 +1,19 @@
 -- What the code keeps for the search through a policy's rules in falling rank.
-use Prim.Native.Nat.{ℕ, _-_, _≤_, _<_}
+use Prim.Native.Nat.{ℕ, _+_, _-_, _*_, _≤_, _<_}
 use mathlib.Core.Bool.{true}
-use mathlib.Core.List.{List}
+use mathlib.Core.List.{List, [], _∷_}
 use mathlib.Core.Path.{_≡_}
 use lib.IntN.{ℤ, pos, negℤ}
-use lib.ListN.{length, getD, drop}
+use lib.ListN.{length, getD, set, drop}
 use Rattle.arith.specs.Lists.{Each}
-use Rattle.peal.specs.Policies.{Rule, Policy}
+use Rattle.signals.specs.Sets.{setOf}
+use Rattle.peal.specs.Policies.{Rule, Policy, noRule}
 use Rattle.peal.specs.declared.Operator.{Operator}
 use Rattle.peal.specs.declared.Operator.the-variants.{Mul}
 use Rattle.book.specs.Acceptance.{within, scoreInRange}
 use Rattle.book.specs.Stored.{storedPolicy}
 use Rattle.book.specs.declared.stored.Policy.{Policy as StoredPolicy}
 use Rattle.compiler.specs.Worth.{worth, limitOf}
-use Rattle.compiler.specs.declared.planning.Plan.{Plan}
 
 -- T is in range
 abbrev pub ThresholdFits : ℤ → Type 0
@@ -22,6 +22,10 @@ ThresholdFits t = within (negℤ (pos 200000)) (pos 200000) t ≡ true
 -- the k rules of lowest rank, of rules in falling rank
 unfoldable pub restOf : ℕ → List Rule → List Rule
 restOf k rules = drop (length rules - k) rules
+
+-- the first of these
+unfoldable pub nextRule : Policy → ℕ → Rule
+nextRule q k = getD (q .rules) (length (q .rules) - k) noRule
 
 -- what the search needs of rules: signals and scores in range, at most 16, at most 8 in mul
 pub record RulesInRange (o : Operator) (rules : List Rule) : Type 0 where
@@ -36,14 +40,24 @@ pub record RulesKept (p : StoredPolicy) : Type 0 where
   pub held : p ≡ storedPolicy policy
   pub range : RulesInRange (policy .operator) (policy .rules)
 
--- the plan is that of a policy, whose rules stand in falling rank, under threshold t
-pub record PlanFor (plan : Plan) (q : Policy) (t : ℤ) : Type 0 where
-  pub held : plan .policy ≡ storedPolicy q
+-- ---- the plan, four cells for each number k of rules
+
+-- row k written
+unfoldable pub withRow : List ℤ → ℕ → (limit rest score bit : ℤ) → List ℤ
+withRow plan k limit rest score bit =
+    set (set (set (set plan (k * 4) limit) (k * 4 + 1) rest) (k * 4 + 2) score) (k * 4 + 3) bit
+
+-- what row k holds; of no rules there is no first
+pub record Row (plan : List ℤ) (q : Policy) (t : ℤ) (k : ℕ) : Type 0 where
+  pub limit : getD plan (k * 4) (pos 0) ≡ limitOf (q .operator) t k
+  pub rest : getD plan (k * 4 + 1) (pos 0) ≡ worth (q .operator) (restOf k (q .rules))
+  pub score : 0 < k → getD plan (k * 4 + 2) (pos 0) ≡ nextRule q k .score
+  pub bit : 0 < k → getD plan (k * 4 + 3) (pos 0) ≡ pos (setOf (nextRule q k .signal ∷ []))
+
+-- the plan is that of a policy with this operator, whose rules stand in falling rank, under threshold t
+pub record PlanFor (o : Operator) (plan : List ℤ) (q : Policy) (t : ℤ) : Type 0 where
+  pub operator : o ≡ q .operator
   pub range : RulesInRange (q .operator) (q .rules)
   pub fits : ThresholdFits t
-  pub limits : (k : ℕ) → k ≤ length (q .rules) → getD (plan .limits) k (pos 0) ≡ limitOf (q .operator) t k
-  pub rests : (k : ℕ) → k ≤ length (q .rules) → getD (plan .rests) k (pos 0) ≡ worth (q .operator) (restOf k (q .rules))
-
--- some policy and threshold make it so
-abbrev pub CanPlan : Plan → Type 0
-CanPlan plan = (q : Policy) × (t : ℤ) × PlanFor plan q t
+  pub long : length plan ≡ 68
+  pub rows : (k : ℕ) → k ≤ length (q .rules) → Row plan q t k

@@ -17,7 +17,7 @@ ghost use Rattle.book.specs.Codes.{codeOf};
 ghost use Rattle.book.specs.Ranges.{PolicyKept, ConditionKept};
 ghost use Rattle.book.specs.Stored.{storedPolicy};
 ghost use Rattle.compiler.specs.Putting.{putRecords};
-ghost use Rattle.compiler.specs.Nodes.{linesIn, oneNode, nodeAt, CountsKept, LinesKept};
+ghost use Rattle.compiler.specs.Nodes.{linesIn, oneNode, nodeAt, CountsUpTo, CountsKept, LinesKept};
 
 // The kind of a join, from its code.
 fn join_kind(sense: peal::Sense, code: u32) -> u32
@@ -110,6 +110,23 @@ fn node_lines(b: book::Book, c: book::Condition, i: usize) -> usize
     count_lines(p, t)
 }
 
+// The same, where `lines` has those of the nodes before it: a policy mentioned again is not searched again.
+fn next_lines(b: book::Book, c: book::Condition, lines: [usize; 31], i: usize) -> usize
+    requires { ⌜ (i < c .length) × ConditionKept b c × CountsUpTo b c lines i ⌝ }
+    ensures { λ r. ⌜ ((h : ConditionKept b c) → r ≡ linesIn (nodeAt (h .book) (h .condition) i)) ⌝ }
+{
+    let code = c.codes[i];
+    let mut j = 0;
+    while j < i {
+        let earlier = c.codes[j];
+        if earlier == code {
+            return lines[j];
+        }
+        j += 1;
+    }
+    node_lines(b, c, i)
+}
+
 // How many records the listing has, and how many lines each node.
 pub struct Counted {
     pub records: usize,
@@ -125,7 +142,7 @@ pub fn count_records(b: book::Book, c: book::Condition) -> Counted
     let mut records = 0;
     let mut i = 0;
     while i < n {
-        let count = node_lines(b, c, i);
+        let count = next_lines(b, c, lines, i);
         lines[i] = count;
         records += 1 + count;
         i += 1;

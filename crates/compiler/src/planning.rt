@@ -1,25 +1,14 @@
 // What the search asks again and again, worked out once for a policy and a threshold.
 // For this crate only: no other can name these functions, and each call is proved to meet its condition.
-use crate::ranking::in_rank_order;
 ghost use mathlib.Core.Path.{_≡_};
-ghost use Prim.Native.Nat.{ℕ, _+_, _^_, _≤_, _<_};
-ghost use lib.IntN.{ℤ, pos};
-ghost use lib.ListN.{length, getD};
+ghost use Prim.Native.Nat.{ℕ, _+_, _^_, _≤_};
+ghost use lib.IntN.{ℤ};
+ghost use lib.ListN.{length};
 ghost use lib.Signed.{mag};
 ghost use Rattle.peal.specs.Policies.{Policy as PealPolicy};
-ghost use Rattle.peal.specs.declared.Operator.the-variants.{Mul};
-ghost use Rattle.book.specs.Ranges.{PolicyInRange, PolicyKept};
 ghost use Rattle.book.specs.Stored.{storedPolicy};
-ghost use Rattle.compiler.specs.RankOrder.{inRankOrder};
-ghost use Rattle.compiler.specs.Worth.{start as startOf, worth, clamped as clampedOf, limitOf};
-ghost use Rattle.compiler.specs.Planning.{ThresholdFits, restOf, RulesKept, PlanFor};
-
-// The policy in falling rank; the limit of the sets of k rules; the operator over the scores of the k rules of lowest rank.
-pub struct Plan {
-    pub policy: book::Policy,
-    pub limits: [i64; 17],
-    pub rests: [i64; 17],
-}
+ghost use Rattle.compiler.specs.Worth.{start as startOf, clamped as clampedOf, limitOf};
+ghost use Rattle.compiler.specs.Planning.{ThresholdFits, RulesInRange, RulesKept, withRow, PlanFor};
 
 // The threshold, but at least -1 and at most 100.
 fn clamped(t: i32) -> i64
@@ -71,56 +60,39 @@ pub fn start(o: peal::Operator) -> i64
     }
 }
 
-// The limits of the sets of up to n rules.
-fn limits_of(o: peal::Operator, t: i32, n: usize) -> [i64; 17]
-    requires { ⌜ (n ≤ 16) × ThresholdFits t × (o ≡ Mul → n ≤ 8) ⌝ }
-    ensures { λ r. ⌜ ((k : ℕ) → k ≤ n → getD r k (pos 0) ≡ limitOf o t k) ⌝ }
+// Row k of a plan, four cells: the limit of the sets of k rules, the operator over the k rules of lowest rank, and the score
+// and the bit of the first of these. A plan is an array of numbers, so that the search can be lent it.
+fn put_row(plan: &mut [i64], k: usize, limit: i64, rest: i64, score: i64, bit: i64)
+    requires { ⌜ (k ≤ 16) × (length (now plan) ≡ 68) ⌝ }
+    ensures { λ r. ⌜ now (plan .exit) ≡ withRow (now (plan .entry)) k limit rest score bit ⌝ }
 {
-    let mut limits = [0i64; 17];
-    let mut limit = first_limit(o, t);
-    limits[0] = limit;
-    let mut k = 0;
-    while k < n {
-        limit = next_limit(o, limit);
-        k += 1;
-        limits[k] = limit;
-    }
-    limits
+    plan[k * 4] = limit;
+    plan[k * 4 + 1] = rest;
+    plan[k * 4 + 2] = score;
+    plan[k * 4 + 3] = bit;
 }
 
-// The operator over the scores of the rules of rank below k, for each k.
-fn rests_of(p: book::Policy) -> [i64; 17]
-    requires { ⌜ RulesKept p ⌝ }
-    ensures { λ r. ⌜ ((q : PealPolicy) → p ≡ storedPolicy q → (k : ℕ) → k ≤ length (q .rules) → getD r k (pos 0) ≡ worth (q .operator) (restOf k (q .rules))) ⌝ }
+// The plan of a policy in falling rank.
+pub fn planned(p: book::Policy, t: i32) -> [i64; 68]
+    requires { ⌜ RulesKept p × ThresholdFits t ⌝ }
+    ensures { λ r. ⌜ ((q : PealPolicy) → p ≡ storedPolicy q → RulesInRange (q .operator) (q .rules) → PlanFor (p .operator) r q t) ⌝ }
 {
     let o = p.operator;
     let n = p.count;
-    let mut rests = [0i64; 17];
-    let mut value = start(o);
-    rests[0] = value;
+    let mut limit = first_limit(o, t);
+    let mut rest = start(o);
+    let mut plan = [0i64; 68];
+    put_row(&mut plan, 0, limit, rest, 0, 0);
     let mut k = 0;
     while k < n {
         k += 1;
         let i = n - k;
-        let score = p.scores[i];
-        value = peal::combined(o, score as i64, value);
-        rests[k] = value;
+        let signal = p.signals[i];
+        let score = p.scores[i] as i64;
+        let bit = signals::bit(signal) as i64;
+        limit = next_limit(o, limit);
+        rest = peal::combined(o, score, rest);
+        put_row(&mut plan, k, limit, rest, score, bit);
     }
-    rests
-}
-
-pub fn planned(p: book::Policy, t: i32) -> Plan
-    requires { ⌜ PolicyKept p × ThresholdFits t ⌝ }
-    ensures { λ r. ⌜ ((q : PealPolicy) → p ≡ storedPolicy q → PolicyInRange q → PlanFor r (inRankOrder q) t) ⌝ }
-{
-    let q = in_rank_order(p);
-    let o = q.operator;
-    let n = q.count;
-    let limits = limits_of(o, t, n);
-    let rests = rests_of(q);
-    Plan {
-        policy: q,
-        limits: limits,
-        rests: rests,
-    }
+    plan
 }

@@ -29,15 +29,15 @@ cell c =
     let s = l .before in
     omega (arith, c .loop-test .taken, kept-length (s .args .b) (s .args .c) (s .pre))
 
-few : (c : tie.After-node-lines Inv-loop μ-loop) → c .node-lines .result ≤ 65536
+few : (c : tie.After-next-lines Inv-loop μ-loop) → c .next-lines .result ≤ 65536
 few c =
     let w = c .before in
     let l = w .before in
     let s = l .before in
-    omega (arith, c .node-lines .ensures (s .pre), lines-few (s .args .b) (s .args .c) (s .pre) (l .loop .i) (w .loop-test .taken))
+    omega (arith, c .next-lines .ensures (s .pre), lines-few (s .args .b) (s .args .c) (s .pre) (l .loop .i) (w .loop-test .taken))
 
-node-lines-requires : tie.Need-node-lines-requires Inv-loop μ-loop
-node-lines-requires c κs = (c .loop-test .taken, c .before .before .pre)
+next-lines-requires : tie.Need-next-lines-requires Inv-loop μ-loop
+next-lines-requires c κs = let l = c .before in (c .loop-test .taken, l .before .pre, record { room = l .loop .inv .2; each = l .loop .inv .4 })
 
 mul-lines : tie.Need-mul-lines Inv-loop μ-loop
 mul-lines c = omega (arith, cell (c .before))
@@ -64,11 +64,11 @@ loop-again c =
     let a = l .before .args in (
       omega (arith, w .loop-test .taken),
       omega (arith, few c, l .loop .inv .1),
-      length-set (l .loop .lines) (l .loop .i) (c .node-lines .result) ∙ l .loop .inv .2,
-      λ h. count-turn (a .b) (a .c) h (l .loop .i) (w .loop-test .taken) _ (c .node-lines .ensures h) (l .loop .records) (l .loop .inv .3 h),
+      length-set (l .loop .lines) (l .loop .i) (c .next-lines .result) ∙ l .loop .inv .2,
+      λ h. count-turn (a .b) (a .c) h (l .loop .i) (w .loop-test .taken) _ (c .next-lines .ensures h) (l .loop .records) (l .loop .inv .3 h),
       λ h.
-          cells-more (λ j. linesIn (nodeAt (h .book) (h .condition) j)) (l .loop .lines) (l .loop .i) (c .node-lines .result) (omega (arith, cell w, l .loop .inv .2)) (l .loop .inv .4 h)
-          (c .node-lines .ensures h),
+          cells-more (λ j. linesIn (nodeAt (h .book) (h .condition) j)) (l .loop .lines) (l .loop .i) (c .next-lines .result) (omega (arith, cell w, l .loop .inv .2)) (l .loop .inv .4 h)
+          (c .next-lines .ensures h),
     )
 
 returns : tie.Need-returns Inv-loop μ-loop
@@ -88,7 +88,7 @@ count-records-spec =
     Inv-loop
     μ-loop
     loop-holds
-    node-lines-requires
+    next-lines-requires
     mul-lines
     array-write-lines
     add-records

@@ -1,61 +1,287 @@
--- `compiler::planning::planned`: the limits and the rests of the policy in falling rank.
-use mathlib.Core.Path.{_≡_, sym, ap, subst, _∙_}
+-- `compiler::planning::planned`: the rows up to k are written, with the limit of k rules and the operator over the k rules of lowest rank.
+use Prim.Native.Nat.{ℕ, _+_, _-_, _^_, _≤_, _<_}
+use mathlib.Core.List.{List, [], _∷_}
+use mathlib.Core.Path.{_≡_, refl, sym, ap, subst, _∙_}
 use native.Mathlib.Omega.{arith}
-use lib.IntN.{ℤ}
-use mir.Syntax.{w32}
-use mir.Val.{toZ, ofZ}
+use borrow.Author.Needs.{needs}
+use lib.IntN.{ℤ, pos}
+use lib.ListN.{length, getD, replicate}
+use lib.Signed.{mag}
+use mir.Syntax.{w32, w64}
+use mir.Val.{SFits, toZ, ofZ}
 use mir.ValLaws.{toZ-ofZ}
+use Rattle.arith.proofs.Signed.{wide-fits, wide-back}
+use Rattle.signals.specs.Sets.{setOf}
+use Rattle.peal.specs.Policies.{Rule, Policy, noRule}
+use Rattle.peal.specs.Combining.{combinedOf}
 use Rattle.peal.specs.declared.Operator.{Operator}
-use Rattle.book.proofs.StoredRules.{count-is, operator-is, kept-count}
-use Rattle.compiler.specs.RankOrder.{inRankOrder}
-use Rattle.compiler.specs.Worth.{limitOf}
-use Rattle.compiler.specs.Planning.{ThresholdFits, RulesKept}
-use Rattle.compiler.proofs.RestLaws.{kept-room}
-use Rattle.compiler.proofs.RankOrderLaws.{ranked-in-range}
+use Rattle.book.specs.Stored.{storedPolicy}
+use Rattle.book.specs.declared.stored.Policy.{Policy as StoredPolicy}
+use Rattle.book.proofs.StoredRules.{count-is, operator-is, signal-at, score-at}
+use Rattle.compiler.specs.Worth.{start, worth, limitOf}
+use Rattle.compiler.specs.Planning.{ThresholdFits, restOf, nextRule, Row}
+use Rattle.compiler.proofs.LimitLaws.{limit-small}
+use Rattle.compiler.proofs.RowLaws.{row-length, row-written, rows-more}
+use Rattle.compiler.proofs.RestLaws.{worth-small, rest-start, rest-next, range-rest, next-signal, kept-room}
 use Rattle.compiler.proofs.planning.planned.Statement.{statement}
 use Rattle.compiler.proofs.planning.planned.Tie as tie
 
-back : (s : tie.Start) → toZ w32 (ofZ w32 (s .args .t)) ≡ s .args .t
+abbrev Inv-loop : tie.InvT-loop
+Inv-loop t p o n limit₀ rest₀ plan₀ k₀ limit rest plan k =
+    (length plan ≡ 68) × (k ≤ p .count) × (toZ w64 limit ≡ limitOf (p .operator) (toZ w32 t) k)
+    × ((q : Policy) → p ≡ storedPolicy q → toZ w64 rest ≡ worth (q .operator) (restOf k (q .rules)))
+    × ((q : Policy) → p ≡ storedPolicy q → (j : ℕ) → j ≤ k → Row plan q (toZ w32 t) j)
+
+abbrev μ-loop : tie.MeasureT-loop
+μ-loop t p o n limit₀ rest₀ plan₀ k₀ limit rest plan k = p .count - k
+
+-- the start, and where a turn of the loop begins
+abbrev first : tie.At-loop Inv-loop μ-loop → tie.Start Inv-loop μ-loop
+first l = l .before .before .before .before .before .before
+
+back : (s : tie.Start Inv-loop μ-loop) → toZ w32 (ofZ w32 (s .args .t)) ≡ s .args .t
 back s = toZ-ofZ w32 (s .args .t) (s .fits .t)
 
-in-rank-order-requires : tie.Need-in-rank-order-requires
-in-rank-order-requires c κs = kept-count (c .args .p) (c .pre .0)
+room : (s : tie.Start Inv-loop μ-loop) → s .args .t1 .count ≤ 16
+room s = kept-room (s .pre .0)
 
--- the rules in falling rank are in range too
-kept : (c : tie.After-in-rank-order) → RulesKept (c .in-rank-order .result)
-kept c =
-    let k = c .before .pre .0 in
-    record { policy = inRankOrder (k .0); held = c .in-rank-order .ensures .1 (k .0) (k .1); range = ranked-in-range (k .0) (k .2) }
+first-limit-requires : tie.Need-first-limit-requires Inv-loop μ-loop
+first-limit-requires c κs = tt
 
-limits-of-requires : tie.Need-limits-of-requires
-limits-of-requires c κs =
-    let k = kept c in (
-      kept-room k,
-      subst ThresholdFits (sym (back (c .before))) (c .before .pre .1),
-      λ m. omega (arith, count-is (c .in-rank-order .result) (k .policy) (k .held), k .range .room (sym (operator-is (c .in-rank-order .result) (k .policy) (k .held)) ∙ m)),
+start-requires : tie.Need-start-requires Inv-loop μ-loop
+start-requires c κs = tt
+
+slice-aggregate-put-row : tie.Need-slice-aggregate-put-row Inv-loop μ-loop
+slice-aggregate-put-row c = refl
+
+put-row-requires : tie.Need-put-row-requires Inv-loop μ-loop
+put-row-requires c κs = (omega arith, refl)
+
+loop-holds : tie.Need-loop-holds Inv-loop μ-loop
+loop-holds c =
+    let w = c .before in
+    let b = w .before .before in
+    let f = b .before in
+    let p = f .before .args .t1 in
+    let T = toZ w32 (ofZ w32 (f .before .args .t)) in
+    let limit = toZ w64 (ofZ w64 (f .first-limit .result)) in
+    let rest = toZ w64 (ofZ w64 (b .start .result)) in
+    let limit-fits : SFits w64 (f .first-limit .result) = search needs in
+    let rest-fits : SFits w64 (b .start .result) = search needs in
+    let limit-is : limit ≡ limitOf (p .operator) T 0 = toZ-ofZ w64 (f .first-limit .result) limit-fits ∙ f .first-limit .ensures in
+    let rest-is : (q : Policy) → p ≡ storedPolicy q → rest ≡ worth (q .operator) (restOf 0 (q .rules)) =
+    λ q e. toZ-ofZ w64 (b .start .result) rest-fits ∙ b .start .ensures ∙ ap start (operator-is p q e) ∙ rest-start (q .operator) (q .rules) in (
+      ap length (w .put-row .ensures) ∙ row-length (replicate 68 (pos 0)) 0 limit rest (pos 0) (pos 0),
+      omega arith,
+      limit-is,
+      rest-is,
+      λ q e j h.
+          subst (λ (plan : List ℤ). Row plan q T j) (sym (w .put-row .ensures))
+          (rows-more (replicate 68 (pos 0)) 0 limit rest (pos 0) (pos 0) q T (λ i m. absurd (omega arith))
+          (row-written (replicate 68 (pos 0)) 0 limit rest (pos 0) (pos 0) q T (omega arith) (limit-is ∙ ap (λ (o : Operator). limitOf o T 0) (operator-is p q e)) (rest-is q e)
+          (λ m. absurd (omega arith)) (λ m. absurd (omega arith))) j h),
     )
 
-rests-of-requires : tie.Need-rests-of-requires
-rests-of-requires c κs = kept (c .before)
+-- ---- a turn
 
-returns : tie.Need-returns
+add-k : tie.Need-add-k Inv-loop μ-loop
+add-k c = search needs
+
+sub-i : tie.Need-sub-i Inv-loop μ-loop
+sub-i c = omega (arith, c .loop-test .taken)
+
+mul-signal : tie.Need-mul-signal Inv-loop μ-loop
+mul-signal c = record { fits = omega (arith, room (first (c .before))) }
+
+element-copy-out-signal : tie.Need-element-copy-out-signal Inv-loop μ-loop
+element-copy-out-signal c = omega (arith, room (first (c .before)))
+
+mul-score : tie.Need-mul-score Inv-loop μ-loop
+mul-score c = record { fits = omega (arith, room (first (c .before .before))) }
+
+element-copy-out-score : tie.Need-element-copy-out-score Inv-loop μ-loop
+element-copy-out-score c = omega (arith, room (first (c .before .before)))
+
+-- the rule of the row
+module _ (c : tie.After-score Inv-loop μ-loop) where
+  abbrev turn : tie.At-loop Inv-loop μ-loop
+  turn = c .before .before .before
+
+  abbrev s : tie.Start Inv-loop μ-loop
+  s = first turn
+
+  abbrev p : StoredPolicy
+  p = s .args .t1
+
+  abbrev T : ℤ
+  T = toZ w32 (ofZ w32 (s .args .t))
+
+  abbrev k : ℕ
+  k = turn .loop .k + 1
+
+  abbrev kept : ℤ
+  kept = getD (p .scores) (p .count - k) (pos 0)
+
+  abbrev score : ℤ
+  score = toZ w64 (ofZ w64 (toZ w32 (ofZ w32 kept)))
+
+  score-fits : SFits w32 kept
+  score-fits = record { sfits = c .score .given }
+
+  module _ (q : Policy) (e : p ≡ storedPolicy q) where
+    rule-is : getD (q .rules) (p .count - k) noRule ≡ nextRule q k
+    unfolding nextRule
+    rule-is = ap (λ (n : ℕ). getD (q .rules) (n - k) noRule) (count-is p q e)
+
+    inside : p .count - k < p .count
+    inside = omega (arith, c .before .before .loop-test .taken)
+
+    signal-is : getD (p .signals) (p .count - k) 0 ≡ nextRule q k .signal
+    signal-is = signal-at p q e (p .count - k) inside ∙ ap (λ (r : Rule). r .signal) rule-is
+
+    score-is : score ≡ nextRule q k .score
+    score-is = wide-back kept score-fits ∙ score-at p q e (p .count - k) inside ∙ ap (λ (r : Rule). r .score) rule-is
+
+    rest-is : combinedOf (p .operator) score (toZ w64 (turn .loop .rest)) ≡ worth (q .operator) (restOf k (q .rules))
+    unfolding nextRule
+    rest-is =
+        ap (λ (o : Operator). combinedOf o score (toZ w64 (turn .loop .rest))) (operator-is p q e)
+        ∙ rest-next (q .operator) (q .rules) (turn .loop .k) (omega (arith, count-is p q e, c .before .before .loop-test .taken)) score (toZ w64 (turn .loop .rest)) score-is (turn .loop .inv .3 q e)
+
+cast-score : tie.Need-cast-score Inv-loop μ-loop
+cast-score c = wide-fits (kept c) (score-fits c)
+
+bit-requires : tie.Need-bit-requires Inv-loop μ-loop
+bit-requires c κs =
+    let h = s c .pre .0 in
+    let n = count-is (p c) (h .policy) (h .held) in
+    omega (arith, signal-is c (h .policy) (h .held), next-signal (h .policy) (k c) (omega arith) (omega (arith, n, c .before .before .loop-test .taken)) (h .range))
+
+cast-bit : tie.Need-cast-bit Inv-loop μ-loop
+cast-bit c = search needs
+
+next-limit-requires : tie.Need-next-limit-requires Inv-loop μ-loop
+next-limit-requires c κs =
+    let g = c .before in
+    let l = turn g in
+    let h = s g .pre .0 in
+    subst (λ (z : ℤ). mag z ≤ 10 ^ 16) (sym (l .loop .inv .2))
+    (limit-small (p g .operator) (T g) (l .loop .k) (subst ThresholdFits (sym (back (s g))) (s g .pre .1))
+    (λ m. omega (arith, g .before .before .loop-test .taken, count-is (p g) (h .policy) (h .held), h .range .room (sym (operator-is (p g) (h .policy) (h .held)) ∙ m))))
+
+combined-requires : tie.Need-combined-requires Inv-loop μ-loop
+combined-requires c κs =
+    let g = c .before .before in
+    let h = s g .pre .0 in
+    subst (λ (z : ℤ). mag z ≤ 10 ^ 16) (sym (rest-is g (h .policy) (h .held)))
+    (worth-small (h .policy .operator) (restOf (k g) (h .policy .rules)) (range-rest (h .policy .operator) (h .policy .rules) (k g) (h .range)))
+
+slice-aggregate-put-row-2 : tie.Need-slice-aggregate-put-row-2 Inv-loop μ-loop
+slice-aggregate-put-row-2 c = sym (turn (c .before .before .before .before) .loop .inv .0)
+
+put-row-requires-2 : tie.Need-put-row-requires-2 Inv-loop μ-loop
+put-row-requires-2 c κs =
+    let g = c .before .before .before .before in
+    (omega (arith, room (s g), g .before .before .loop-test .taken), turn g .loop .inv .0)
+
+-- the row is written
+module _ (c : tie.After-put-row2 Inv-loop μ-loop) where
+  abbrev combined : tie.After-combined Inv-loop μ-loop
+  combined = c .before .before
+
+  abbrev limited : tie.After-next-limit Inv-loop μ-loop
+  limited = combined .before
+
+  abbrev bitten : tie.After-bit Inv-loop μ-loop
+  bitten = limited .before
+
+  abbrev scored : tie.After-score Inv-loop μ-loop
+  scored = bitten .before
+
+  abbrev limit : ℤ
+  limit = toZ w64 (ofZ w64 (limited .next-limit .result))
+
+  abbrev rest : ℤ
+  rest = toZ w64 (ofZ w64 (combined .combined .result))
+
+  limit-now : limit ≡ limitOf (p scored .operator) (T scored) (k scored)
+  limit-now =
+      let fits : SFits w64 (limited .next-limit .result) = search needs in
+      toZ-ofZ w64 (limited .next-limit .result) fits ∙ limited .next-limit .ensures (T scored) (turn scored .loop .k) (turn scored .loop .inv .2)
+
+  module _ (q : Policy) (e : p scored ≡ storedPolicy q) where
+    rest-now : rest ≡ worth (q .operator) (restOf (k scored) (q .rules))
+    rest-now =
+        let fits : SFits w64 (combined .combined .result) = search needs in
+        toZ-ofZ w64 (combined .combined .result) fits ∙ combined .combined .ensures ∙ rest-is scored q e
+
+    bit-now : toZ w64 (bitten .bit .result) ≡ pos (setOf (nextRule q (k scored) .signal ∷ []))
+    bit-now =
+        toZ-ofZ w64 (pos (bitten .bit .result)) (cast-bit bitten)
+        ∙ ap pos (bitten .bit .ensures ∙ ap (λ (n : ℕ). setOf (n ∷ [])) (signal-is scored q e))
+
+    rows-now : (j : ℕ) → j ≤ k scored → Row (c .put-row2 .last .0) q (T scored) j
+    rows-now j h =
+        let plan = turn scored .loop .plan in
+        subst (λ (after : List ℤ). Row after q (T scored) j) (sym (c .put-row2 .ensures))
+        (rows-more plan (k scored) limit rest (score scored) (toZ w64 (bitten .bit .result)) q (T scored) (λ i m. turn scored .loop .inv .4 q e i (omega arith))
+        (row-written plan (k scored) limit rest (score scored) (toZ w64 (bitten .bit .result)) q (T scored)
+        (omega (arith, turn scored .loop .inv .0, room (s scored), scored .before .before .loop-test .taken))
+        (limit-now ∙ ap (λ (o : Operator). limitOf o (T scored) (k scored)) (operator-is (p scored) q e)) rest-now (λ m. score-is scored q e) (λ m. bit-now)) j h)
+
+loop-less : tie.Need-loop-less Inv-loop μ-loop
+loop-less c = omega (arith, scored (c .before) .before .before .loop-test .taken)
+
+loop-again : tie.Need-loop-again Inv-loop μ-loop
+loop-again c =
+    let w = c .before in
+    let g = scored w in (
+      ap length (w .put-row2 .ensures) ∙ row-length (turn g .loop .plan) (k g) (limit w) (rest w) (score g) (toZ w64 (bitten w .bit .result)) ∙ turn g .loop .inv .0,
+      omega (arith, g .before .before .loop-test .taken),
+      limit-now w,
+      rest-now w,
+      rows-now w,
+    )
+
+returns : tie.Need-returns Inv-loop μ-loop
 returns c q e r =
     let l = c .before in
-    let k = l .before in
-    let s = k .before in
-    let held = k .in-rank-order .ensures .1 q e in
+    let s = first l in
     record {
-      held = held;
-      range = ranked-in-range q r;
+      operator = operator-is (s .args .t1) q e;
+      range = r;
       fits = s .pre .1;
-      limits =
-          λ i h.
-          l .limits-of .ensures i (omega (arith, h, count-is (k .in-rank-order .result) (inRankOrder q) held))
-          ∙ ap (λ (o : Operator). limitOf o (toZ w32 (ofZ w32 (s .args .t))) i) (operator-is (k .in-rank-order .result) (inRankOrder q) held)
-          ∙ ap (λ (t : ℤ). limitOf (inRankOrder q .operator) t i) (back s);
-      rests = λ i h. c .rests-of .ensures (inRankOrder q) held i h;
+      long = l .loop .inv .0;
+      rows =
+          λ k h.
+          subst (λ (t : ℤ). Row (l .loop .plan) q t k) (back s)
+          (l .loop .inv .4 q e k (omega (arith, c .loop-test .left, count-is (s .args .t1) q e)));
     }
 
 pub planned-spec : {M : Type 1} → statement M
 planned-spec =
-    tie.close (tie.spec in-rank-order-requires limits-of-requires rests-of-requires returns)
+    tie.close
+    (tie.spec
+    Inv-loop
+    μ-loop
+    first-limit-requires
+    start-requires
+    slice-aggregate-put-row
+    put-row-requires
+    loop-holds
+    add-k
+    sub-i
+    mul-signal
+    element-copy-out-signal
+    mul-score
+    element-copy-out-score
+    cast-score
+    bit-requires
+    cast-bit
+    next-limit-requires
+    combined-requires
+    slice-aggregate-put-row-2
+    put-row-requires-2
+    loop-less
+    loop-again
+    returns)

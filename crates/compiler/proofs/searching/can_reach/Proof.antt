@@ -1,8 +1,9 @@
 -- `compiler::searching::can_reach`: the limit for all the rules tells.
-use Prim.Native.Nat.{_+_, _^_, _≤_}
+use Prim.Native.Nat.{_+_, _*_, _^_, _≤_}
 use mathlib.Core.Path.{_≡_, sym, subst, _∙_}
 use native.Mathlib.Omega.{arith}
 use borrow.Author.Needs.{needs}
+use denote.Ref.{now}
 use lib.IntN.{ℤ, pos}
 use lib.ListN.{getD}
 use lib.Signed.{mag}
@@ -15,31 +16,41 @@ use Rattle.compiler.proofs.searching.can_reach.Tie as tie
 
 -- of what is asked for
 few : (s : tie.Start) → s .args .x .count + s .args .left ≤ 16
-few s = taken-few (s .args .t1) (s .args .x) (s .args .left) (s .pre .0) (s .pre .1) (s .pre .2) (s .pre .3)
+few s = taken-few (s .pre .3)
 
 value-back : (s : tie.Start) → toZ w64 (ofZ w64 (s .args .x .value)) ≡ s .args .x .value
-value-back s = toZ-ofZ w64 (s .args .x .value) (taken-fits (s .args .t1) (s .args .x) (s .args .left) (s .pre .0) (s .pre .1) (s .pre .2) (s .pre .3))
+value-back s =
+    toZ-ofZ w64 (s .args .x .value) (taken-fits (s .pre .3))
 
 add-all : tie.Need-add-all
-add-all c = record { fits = omega (arith, few (c .before .before)) }
+add-all c = record { fits = omega (arith, few (c .before)) }
 
 mul-limit : tie.Need-mul-limit
-mul-limit c = record { fits = omega (arith, few (c .before .before)) }
+mul-limit c = record { fits = omega (arith, few (c .before)) }
 
-element-copy-out-limit : tie.Need-element-copy-out-limit
-element-copy-out-limit c = omega (arith, few (c .before .before))
+mul-limit-2 : tie.Need-mul-limit-2
+mul-limit-2 c = record { fits = omega (arith, few (c .before)) }
+
+shared-slice-copy-out-limit : tie.Need-shared-slice-copy-out-limit
+shared-slice-copy-out-limit c = omega (arith, few (c .before), c .before .pre .3 .planned .long)
 
 mul-rest : tie.Need-mul-rest
-mul-rest c = record { fits = omega (arith, few (c .before .before .before)) }
+mul-rest c = record { fits = omega (arith, few (c .before .before)) }
 
-element-copy-out-rest : tie.Need-element-copy-out-rest
-element-copy-out-rest c = omega (arith, few (c .before .before .before))
+add-rest : tie.Need-add-rest
+add-rest c = record { fits = omega (arith, few (c .before .before)) }
+
+mul-rest-2 : tie.Need-mul-rest-2
+mul-rest-2 c = record { fits = omega (arith, few (c .before .before)) }
+
+shared-slice-copy-out-rest : tie.Need-shared-slice-copy-out-rest
+shared-slice-copy-out-rest c = let s = c .before .before in omega (arith, few s, s .pre .3 .planned .long)
 
 combined-requires : tie.Need-combined-requires
 combined-requires c κs =
-    let s = c .before .before .before .before .before in
-    all-small (s .args .t1) (s .args .x) (s .args .left) (s .pre .0) (s .pre .1) (s .pre .2) (s .pre .3) _ _ (value-back s)
-    (toZ-ofZ w64 (getD (s .args .t1 .rests) (s .args .left) (pos 0)) (record { sfits = c .before .rest .given }))
+    let s = c .before .before .before .before in
+    all-small (s .pre .3) (value-back s)
+    (toZ-ofZ w64 (getD (now (s .args .plan)) (s .args .left * 4 + 1) (pos 0)) (record { sfits = c .before .rest .given }))
 
 is-reached-requires : tie.Need-is-reached-requires
 is-reached-requires c κs =
@@ -48,16 +59,28 @@ is-reached-requires c κs =
 
 returns : tie.Need-returns
 returns c q t X h =
-    let s = c .before .before .before .before .before .before .before in
     let d = c .before in
+    let r = d .before .before in
+    let s = r .before .before .before in
     let fits : SFits w64 (d .combined .result) = search needs in
     c .is-reached .ensures
-    ∙ all-tell (s .args .t1) (s .args .x) (s .args .left) q t X h _ _ (value-back s)
-    (toZ-ofZ w64 (getD (s .args .t1 .rests) (s .args .left) (pos 0)) (record { sfits = d .before .before .rest .given })) _ _
-    (toZ-ofZ w64 (getD (s .args .t1 .limits) (s .args .x .count + s .args .left) (pos 0)) (record { sfits = d .before .before .before .limit .given }))
+    ∙ all-tell h (value-back s)
+    (toZ-ofZ w64 (getD (now (s .args .plan)) (s .args .left * 4 + 1) (pos 0)) (record { sfits = r .rest .given }))
+    (toZ-ofZ w64 (getD (now (s .args .plan)) ((s .args .x .count + s .args .left) * 4) (pos 0)) (record { sfits = r .before .limit .given }))
     (toZ-ofZ w64 (d .combined .result) fits ∙ d .combined .ensures)
 
 pub can-reach-spec : {M : Type 1} → statement M
 can-reach-spec =
     tie.close
-    (tie.spec add-all mul-limit element-copy-out-limit mul-rest element-copy-out-rest combined-requires is-reached-requires returns)
+    (tie.spec
+    add-all
+    mul-limit
+    mul-limit-2
+    shared-slice-copy-out-limit
+    mul-rest
+    add-rest
+    mul-rest-2
+    shared-slice-copy-out-rest
+    combined-requires
+    is-reached-requires
+    returns)

@@ -1,7 +1,8 @@
 -- `compiler::searching::has_reached`: the limit for so many rules tells.
-use Prim.Native.Nat.{_^_, _≤_}
+use Prim.Native.Nat.{_*_, _^_, _≤_}
 use mathlib.Core.Path.{_≡_, sym, subst, _∙_}
 use native.Mathlib.Omega.{arith}
+use denote.Ref.{now}
 use lib.IntN.{ℤ, pos}
 use lib.ListN.{getD}
 use lib.Signed.{mag}
@@ -14,28 +15,32 @@ use Rattle.compiler.proofs.searching.has_reached.Tie as tie
 
 -- of what is asked for
 few : (s : tie.Start) → s .args .x .count ≤ 16
-few s = omega (arith, taken-few (s .args .t1) (s .args .x) (s .args .left) (s .pre .0) (s .pre .1) (s .pre .2) (s .pre .3))
+few s = omega (arith, taken-few (s .pre .3))
 
 value-back : (s : tie.Start) → toZ w64 (ofZ w64 (s .args .x .value)) ≡ s .args .x .value
-value-back s = toZ-ofZ w64 (s .args .x .value) (taken-fits (s .args .t1) (s .args .x) (s .args .left) (s .pre .0) (s .pre .1) (s .pre .2) (s .pre .3))
+value-back s = toZ-ofZ w64 (s .args .x .value) (taken-fits (s .pre .3))
 
 mul-limit : tie.Need-mul-limit
-mul-limit c = record { fits = omega (arith, few (c .before)) }
+mul-limit c = record { fits = omega (arith, few c) }
 
-element-copy-out-limit : tie.Need-element-copy-out-limit
-element-copy-out-limit c = omega (arith, few (c .before))
+mul-limit-2 : tie.Need-mul-limit-2
+mul-limit-2 c = record { fits = omega (arith, few c) }
+
+shared-slice-copy-out-limit : tie.Need-shared-slice-copy-out-limit
+shared-slice-copy-out-limit c = omega (arith, few c, c .pre .3 .planned .long)
 
 is-reached-requires : tie.Need-is-reached-requires
 is-reached-requires c κs =
-    let s = c .before .before .before in
-    subst (λ (z : ℤ). mag z ≤ 10 ^ 16) (sym (value-back s)) (taken-small (s .args .t1) (s .args .x) (s .args .left) (s .pre .0) (s .pre .1) (s .pre .2) (s .pre .3))
+    let s = c .before .before in
+    subst (λ (z : ℤ). mag z ≤ 10 ^ 16) (sym (value-back s)) (taken-small (s .pre .3))
 
 returns : tie.Need-returns
 returns c q t X h =
-    let s = c .before .before .before .before in
+    let s = c .before .before .before in
     c .is-reached .ensures
-    ∙ taken-tells (s .args .t1) (s .args .x) (s .args .left) q t X h _ _ (toZ-ofZ w64 (getD (s .args .t1 .limits) (s .args .x .count) (pos 0)) (record { sfits = c .before .before .limit .given })) (value-back s)
+    ∙ taken-tells h
+    (toZ-ofZ w64 (getD (now (s .args .plan)) (s .args .x .count * 4) (pos 0)) (record { sfits = c .before .before .limit .given })) (value-back s)
 
 pub has-reached-spec : {M : Type 1} → statement M
 has-reached-spec =
-    tie.close (tie.spec mul-limit element-copy-out-limit is-reached-requires returns)
+    tie.close (tie.spec mul-limit mul-limit-2 shared-slice-copy-out-limit is-reached-requires returns)

@@ -1,13 +1,16 @@
--- `compiler::searching::put_lines`: the search through the rules in falling rank finds the lines.
-use Prim.Native.Nat.{_+_}
-use mathlib.Core.List.{List, map}
+-- `compiler::searching::put_lines`: the search through the rules in falling rank, from the empty set on, finds the lines.
+use Prim.Native.Nat.{_+_, _≤_}
+use mathlib.Core.Bool.{Bool, true, false}
+use mathlib.Core.List.{List, [], _∷_, map}
 use mathlib.Core.Path.{_≡_, sym, ap, subst, _∙_}
+use native.Mathlib.Omega.{arith}
 use denote.Ref.{now}
 use lib.IntN.{ℤ}
 use lib.ListN.{length}
 use mir.Syntax.{w32}
 use mir.Val.{toZ, ofZ}
 use mir.ValLaws.{toZ-ofZ}
+use Rattle.signals.specs.Sets.{setOf}
 use Rattle.peal.specs.Policies.{Rule, Policy}
 use Rattle.peal.specs.Having.{has}
 use Rattle.peal.specs.Lines.{lines}
@@ -15,52 +18,191 @@ use Rattle.peal.specs.Search.{foundSets}
 use Rattle.peal.specs.Translation.{maskOf}
 use Rattle.peal.proofs.LineLaws.{search-finds-lines}
 use Rattle.book.specs.Ranges.{PolicyInRange}
+use Rattle.book.specs.Stored.{storedPolicy}
+use Rattle.book.specs.declared.stored.Policy.{Policy as StoredPolicy}
 use Rattle.book.proofs.ScoreSizes.{range-fits}
+use Rattle.book.proofs.StoredRules.{count-is, kept-count}
 use Rattle.compiler.specs.Putting.{putRecords, linesUpTo}
 use Rattle.compiler.specs.RankOrder.{withRules, inRankOrder}
-use Rattle.compiler.specs.Planning.{ThresholdFits}
-use Rattle.compiler.proofs.PuttingLaws.{puts-length}
+use Rattle.compiler.specs.Planning.{ThresholdFits, PlanFor}
+use Rattle.compiler.specs.Searching.{Searching, CanSearch, found}
+use Rattle.compiler.proofs.PuttingLaws.{put-length, puts-length}
+use Rattle.compiler.proofs.RankOrderLaws.{ranked-in-range}
+use Rattle.compiler.proofs.SearchingLaws.{none-coming, beginning, all-found, found-few, found-itself}
 use Rattle.compiler.proofs.searching.put_lines.Statement.{statement}
 use Rattle.compiler.proofs.searching.put_lines.Tie as tie
 
 back : (s : tie.Start) → toZ w32 (ofZ w32 (s .args .t)) ≡ s .args .t
 back s = toZ-ofZ w32 (s .args .t) (s .fits .t)
 
--- what is found, as document 01 has it
-are-lines : (s : tie.Start) (q : Policy) → PolicyInRange q
-    → foundSets (has (inRankOrder q .operator) (toZ w32 (ofZ w32 (s .args .t)))) (inRankOrder q .rules) ≡ lines (q .operator) (s .args .t) (q .rules)
-unfolding inRankOrder withRules
-are-lines s q r =
-    ap (λ (t : ℤ). foundSets (has (q .operator) t) (inRankOrder q .rules)) (back s)
-    ∙ search-finds-lines (q .operator) (s .args .t) (q .rules) (range-fits (q .operator) (q .rules) (r .scores) (r .room))
+in-rank-order-requires : tie.Need-in-rank-order-requires
+in-rank-order-requires c κs = let s = c .before in kept-count (s .args .p) (s .pre .2)
 
 planned-requires : tie.Need-planned-requires
-planned-requires c κs = let s = c .before in (s .pre .2, subst ThresholdFits (sym (back s)) (s .pre .3))
+planned-requires c κs =
+    let s = c .before .before in
+    let k = s .pre .2 in (
+      record { policy = inRankOrder (k .0); held = c .in-rank-order .ensures .1 (k .0) (k .1); range = ranked-in-range (k .0) (k .2) },
+      subst ThresholdFits (sym (back s)) (s .pre .3),
+    )
 
-put-found-requires : tie.Need-put-found-requires
-put-found-requires c κs =
-    let s = c .before .before .before in
-    let k = s .pre .2 in
-    (s .pre .0, s .pre .1, (inRankOrder (k .0), _, c .before .planned .ensures (k .0) (k .1) (k .2)))
+none-taken-requires : tie.Need-none-taken-requires
+none-taken-requires c κs = tt
+
+-- the search begins
+module _ (c : tie.After-none-taken) where
+  abbrev s : tie.Start
+  s = c .before .before .before .before
+
+  abbrev T : ℤ
+  T = toZ w32 (ofZ w32 (s .args .t))
+
+  abbrev p : StoredPolicy
+  p = c .before .before .in-rank-order .result
+
+  abbrev plan : List ℤ
+  plan = c .before .planned .result
+
+  module _ (q : Policy) (e : s .args .p ≡ storedPolicy q) (r : PolicyInRange q) where
+    abbrev ranked : Policy
+    ranked = inRankOrder q
+
+    held : p ≡ storedPolicy ranked
+    held = c .before .before .in-rank-order .ensures .1 q e
+
+    plan-for : PlanFor (p .operator) plan ranked T
+    plan-for = c .before .planned .ensures ranked held (ranked-in-range q r)
+
+    begun : Searching (p .operator) plan (c .none-taken .result) (p .count) ranked T []
+    begun = beginning plan-for (count-is p ranked held) (c .none-taken .ensures)
+
+    tested : Searching (p .operator) plan (c .none-taken .result) 0 ranked T []
+    tested = none-coming begun
+
+    few : length (found ranked T [] (p .count)) ≤ 65536
+    few = found-few plan-for (count-is p ranked held)
+
+    -- what is found, as document 01 has it
+    are-lines : found ranked T [] (p .count) ≡ lines (q .operator) (s .args .t) (q .rules)
+    unfolding inRankOrder withRules
+    are-lines =
+        all-found plan-for (count-is p ranked held)
+        ∙ ap (λ (t : ℤ). foundSets (has (q .operator) t) (ranked .rules)) (back s)
+        ∙ search-finds-lines (q .operator) (s .args .t) (q .rules) (range-fits (q .operator) (q .rules) (r .scores) (r .room))
+
+  -- of the policy that is asked for
+  abbrev lent : (68 ≡ length plan) × CanSearch (p .operator) plan (c .none-taken .result) 0
+  lent = let k = s .pre .2 in (sym (plan-for (k .0) (k .1) (k .2) .long), (inRankOrder (k .0), T, [], tested (k .0) (k .1) (k .2)))
+
+slice-aggregate-has-reached : tie.Need-slice-aggregate-has-reached
+slice-aggregate-has-reached c = lent (c .before) .0
+
+has-reached-requires : tie.Need-has-reached-requires
+has-reached-requires c κs = lent (c .before) .1
+
+-- whether the empty set has the property
+module _ (c : tie.After-has-reached) (b : Bool) (answer : c .has-reached .result ≡ b) where
+  abbrev none : tie.After-none-taken
+  none = c .before .before
+
+  empty-has : (q : Policy) → s none .args .p ≡ storedPolicy q → PolicyInRange q → has (inRankOrder q .operator) (T none) [] ≡ b
+  empty-has q e r = sym (c .has-reached .ensures (inRankOrder q) (T none) [] (tested none q e r)) ∙ answer
+
+-- ---- it has: it is the one line
+
+put-line-requires : tie.Need-put-line-requires
+put-line-requires c κs = let b = s (c .before .before .before .before) in (b .pre .0, omega (arith, b .pre .1))
+
+add-result : tie.Need-add-result
+add-result c = record { fits = omega (arith, s (c .before .before .before .before .before .before .before) .pre .1) }
 
 same-length : tie.Need-same-length
 same-length c =
-    let p = c .before .before in
-    let s = p .before .before .before .before in
-    let k = s .pre .2 in
-    ap length (p .put-found .ensures .1 (inRankOrder (k .0)) _ (p .before .before .planned .ensures (k .0) (k .1) (k .2))) ∙ puts-length (now (s .args .words)) (s .args .at) _
+    let b = s (c .before .before .before .before .before .before .before) in
+    ap length (c .before .before .put-line .ensures) ∙ put-length (now (b .args .words)) (b .args .at) _
 
 returns : tie.Need-returns
+unfolding linesUpTo putRecords maskOf setOf
 returns c =
-    let p = c .before .before in
-    let s = p .before .before .before .before in
-    let d = p .before .before in (
-      λ q e r.
-          p .put-found .ensures .0 (inRankOrder q) _ (d .planned .ensures q e r) ∙ ap (λ (F : List (List Rule)). s .args .at + length F) (are-lines s q r),
-      λ q e r.
-          p .put-found .ensures .1 (inRankOrder q) _ (d .planned .ensures q e r)
-          ∙ ap (λ (F : List (List Rule)). putRecords (now (s .args .words)) (s .args .at) (linesUpTo (s .args .last) (s .args .at) (map maskOf F))) (are-lines s q r),
+    let w = c .before .before in
+    let h = w .before .before .before in
+    let n = h .before .before in
+    let a = s n .args in
+    let one : (q : Policy) → a .p ≡ storedPolicy q → PolicyInRange q → [] ∷ [] ≡ lines (q .operator) (a .t) (q .rules) =
+    λ q e r. sym (found-itself (inRankOrder q) (T n) [] (p n .count) (empty-has h true (w .before .before .if1 .taken) q e r)) ∙ are-lines n q e r in (
+      λ q e r. ap (λ (F : List (List Rule)). a .at + length F) (one q e r),
+      λ q e r. w .put-line .ensures ∙ ap (λ (F : List (List Rule)). putRecords (now (a .words)) (a .at) (linesUpTo (a .last) (a .at) (map maskOf F))) (one q e r),
     )
 
+-- ---- it has not: the search goes on from it
+
+slice-aggregate-search : tie.Need-slice-aggregate-search
+slice-aggregate-search c = lent (c .before .before .before .before) .0
+
+search-requires : tie.Need-search-requires
+search-requires c κs =
+    let h = c .before .before .before in
+    let n = h .before .before in
+    let b = s n in
+    let k = b .pre .2 in (
+      b .pre .0,
+      (
+        inRankOrder (k .0),
+        T n,
+        [],
+        begun n (k .0) (k .1) (k .2),
+        empty-has h false (c .before .before .if1 .left) (k .0) (k .1) (k .2),
+        omega (arith, b .pre .1, few n (k .0) (k .1) (k .2)),
+      ),
+    )
+
+-- the words and the record behind
+module _ (c : tie.After-search) where
+  abbrev tried : tie.After-has-reached
+  tried = c .before .before .before .before
+
+  abbrev begin : tie.After-none-taken
+  begin = tried .before .before
+
+  module _ (q : Policy) (e : s begin .args .p ≡ storedPolicy q) (r : PolicyInRange q) where
+    lacks : has (inRankOrder q .operator) (T begin) [] ≡ false
+    lacks = empty-has tried false (c .before .before .before .if1 .left) q e r
+
+    number : c .search .result ≡ s begin .args .at + length (lines (q .operator) (s begin .args .t) (q .rules))
+    number =
+        c .search .ensures .0 (inRankOrder q) (T begin) [] (begun begin q e r) lacks
+        ∙ ap (λ (F : List (List Rule)). s begin .args .at + length F) (are-lines begin q e r)
+
+    words : c .search .last .1 .1 .1 .1 .0
+        ≡ putRecords (now (s begin .args .words)) (s begin .args .at) (linesUpTo (s begin .args .last) (s begin .args .at) (map maskOf (lines (q .operator) (s begin .args .t) (q .rules))))
+    words =
+        c .search .ensures .1 (inRankOrder q) (T begin) [] (begun begin q e r) lacks
+        ∙ ap (λ (F : List (List Rule)). putRecords (now (s begin .args .words)) (s begin .args .at) (linesUpTo (s begin .args .last) (s begin .args .at) (map maskOf F))) (are-lines begin q e r)
+
+same-length-2 : tie.Need-same-length-2
+same-length-2 c =
+    let w = c .before .before in
+    let b = s (begin w) in
+    let k = b .pre .2 in
+    ap length (words w (k .0) (k .1) (k .2)) ∙ puts-length (now (b .args .words)) (b .args .at) _
+
+returns-2 : tie.Need-returns-2
+returns-2 c = (number (c .before .before), words (c .before .before))
+
 pub put-lines-spec : {M : Type 1} → statement M
-put-lines-spec = tie.close (tie.spec planned-requires put-found-requires same-length returns)
+put-lines-spec =
+    tie.close
+    (tie.spec
+    in-rank-order-requires
+    planned-requires
+    none-taken-requires
+    slice-aggregate-has-reached
+    has-reached-requires
+    put-line-requires
+    add-result
+    same-length
+    returns
+    slice-aggregate-search
+    search-requires
+    same-length-2
+    returns-2)
