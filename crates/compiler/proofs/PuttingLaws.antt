@@ -16,7 +16,7 @@ put-append (r ∷ rs) ss w n =
     let e : n + 1 + length rs ≡ n + suc (length rs) = omega arith in
     put-append rs ss (putRecord w n r) (n + 1) ∙ ap (λ (k : ℕ). putRecords (putRecords (putRecord w n r) (n + 1) rs) k ss) e
 
-pub lines-append : (last n : ℕ) (ms ks : List ℕ) → linesUpTo last n (ms ++ ks) ≡ linesUpTo last n ms ++ linesUpTo last (n + length ms) ks
+lines-append : (last n : ℕ) (ms ks : List ℕ) → linesUpTo last n (ms ++ ks) ≡ linesUpTo last n ms ++ linesUpTo last (n + length ms) ks
 unfolding linesUpTo
 lines-append last n [] ks = let e : n ≡ n + 0 = omega arith in ap (λ (k : ℕ). linesUpTo last k ks) e
 lines-append last n (m ∷ ms) ks =

@@ -2,7 +2,7 @@
 use Prim.Native.Nat.{ℕ, _+_, _*_, _≤_, _<_}
 use mathlib.Core.List.{List, [], _∷_}
 use mathlib.Core.Logic.{⊎-elim}
-use mathlib.Core.Path.{_≡_, subst, _∙_}
+use mathlib.Core.Path.{_≡_, sym, subst, _∙_}
 use native.Mathlib.Omega.{arith}
 use lib.IntN.{ℤ, pos}
 use lib.ListN.{length, getD, set, length-set}
@@ -13,7 +13,7 @@ use Rattle.peal.specs.Policies.{Policy}
 use Rattle.compiler.specs.Worth.{worth, limitOf}
 use Rattle.compiler.specs.Planning.{restOf, nextRule, withRow, Row}
 
--- the cell before the one that is set, and any other
+-- a cell before the one that is set
 past : (cells : List ℤ) (i j : ℕ) (x : ℤ) → j < i → getD (set cells i x) j (pos 0) ≡ getD cells j (pos 0)
 past cells i j x h = getD-set-other cells i j x (pos 0) (λ z. omega arith)
 
@@ -48,11 +48,8 @@ module _ (plan : List ℤ) (k : ℕ) (limit rest score bit : ℤ) where
       ∙ past one (k * 4 + 1) m rest (omega arith) ∙ past plan (k * 4) m limit h
 
   module _ (q : Policy) (t : ℤ) where
-    abbrev written : ℕ → Type 0
-    written = Row (withRow plan k limit rest score bit) q t
-
-    pub row-kept : (j : ℕ) → j < k → Row plan q t j → written j
-    row-kept j h r =
+    kept : (j : ℕ) → j < k → Row plan q t j → Row (withRow plan k limit rest score bit) q t j
+    kept j h r =
         record {
           limit = row-before (j * 4) (omega arith) ∙ r .limit;
           rest = row-before (j * 4 + 1) (omega arith) ∙ r .rest;
@@ -60,25 +57,30 @@ module _ (plan : List ℤ) (k : ℕ) (limit rest score bit : ℤ) where
           bit = λ s. row-before (j * 4 + 3) (omega arith) ∙ r .bit s;
         }
 
-    pub row-written : k * 4 + 3 < length plan → limit ≡ limitOf (q .operator) t k → rest ≡ worth (q .operator) (restOf k (q .rules))
-        → (0 < k → score ≡ nextRule q k .score) → (0 < k → bit ≡ pos (setOf (nextRule q k .signal ∷ []))) → written k
-    unfolding withRow
-    row-written h l r s b =
-        record {
-          limit =
-              past three (k * 4 + 3) (k * 4) bit (omega arith) ∙ past two (k * 4 + 2) (k * 4) score (omega arith)
-              ∙ past one (k * 4 + 1) (k * 4) rest (omega arith) ∙ getD-set-same plan (k * 4) limit (pos 0) (omega arith) ∙ l;
-          rest =
-              past three (k * 4 + 3) (k * 4 + 1) bit (omega arith) ∙ past two (k * 4 + 2) (k * 4 + 1) score (omega arith)
-              ∙ getD-set-same one (k * 4 + 1) rest (pos 0) (omega (arith, one-length)) ∙ r;
-          score =
-              λ i.
-              past three (k * 4 + 3) (k * 4 + 2) bit (omega arith)
-              ∙ getD-set-same two (k * 4 + 2) score (pos 0) (omega (arith, two-length)) ∙ s i;
-          bit = λ i. getD-set-same three (k * 4 + 3) bit (pos 0) (omega (arith, three-length)) ∙ b i;
-        }
+    module _ (room : k * 4 + 3 < length plan) (limit-is : limit ≡ limitOf (q .operator) t k) (rest-is : rest ≡ worth (q .operator) (restOf k (q .rules)))
+        (score-is : 0 < k → score ≡ nextRule q k .score) (bit-is : 0 < k → bit ≡ pos (setOf (nextRule q k .signal ∷ []))) where
+      here : Row (withRow plan k limit rest score bit) q t k
+      unfolding withRow
+      here =
+          record {
+            limit =
+                past three (k * 4 + 3) (k * 4) bit (omega arith) ∙ past two (k * 4 + 2) (k * 4) score (omega arith)
+                ∙ past one (k * 4 + 1) (k * 4) rest (omega arith) ∙ getD-set-same plan (k * 4) limit (pos 0) (omega arith) ∙ limit-is;
+            rest =
+                past three (k * 4 + 3) (k * 4 + 1) bit (omega arith) ∙ past two (k * 4 + 2) (k * 4 + 1) score (omega arith)
+                ∙ getD-set-same one (k * 4 + 1) rest (pos 0) (omega (arith, one-length)) ∙ rest-is;
+            score =
+                λ some.
+                past three (k * 4 + 3) (k * 4 + 2) bit (omega arith)
+                ∙ getD-set-same two (k * 4 + 2) score (pos 0) (omega (arith, two-length)) ∙ score-is some;
+            bit = λ some. getD-set-same three (k * 4 + 3) bit (pos 0) (omega (arith, three-length)) ∙ bit-is some;
+          }
 
-    -- one row more
-    pub rows-more : ((j : ℕ) → j < k → Row plan q t j) → written k → (j : ℕ) → j ≤ k → written j
-    rows-more rows here j h =
-        ⊎-elim (λ (m : k ≤ j). let e : k ≡ j = omega arith in subst written e here) (λ m. row-kept j m (rows j m)) (le-or-lt k j)
+      -- one row more in the plan
+      pub rows-more : {after : List ℤ} → after ≡ withRow plan k limit rest score bit → ((j : ℕ) → j < k → Row plan q t j) → (j : ℕ) → j ≤ k → Row after q t j
+      rows-more e rows j h =
+          subst (λ (cells : List ℤ). Row cells q t j) (sym e)
+          (⊎-elim
+          (λ (m : k ≤ j). let s : k ≡ j = omega arith in subst (Row (withRow plan k limit rest score bit) q t) s here)
+          (λ m. kept j m (rows j m))
+          (le-or-lt k j))

@@ -111,7 +111,7 @@ module _ (o : Operator) (X : List Rule) (r : Rule) (Y : List Rule) (h : RulesInR
   range-with : RulesInRange o (X ++ (r ∷ []) ++ Y)
   range-with = subst (RulesInRange o) (sym (append-assoc X (r ∷ []) Y)) h
 
-pub range-taken : (o : Operator) (X Y : List Rule) → RulesInRange o (X ++ Y) → RulesInRange o X
+range-taken : (o : Operator) (X Y : List Rule) → RulesInRange o (X ++ Y) → RulesInRange o X
 range-taken o X Y h =
     record {
       signals = each-left (λ (x : Rule). x .signal < 16) X Y (h .signals);
@@ -168,7 +168,7 @@ module _ {op : Operator} {plan : List ℤ} {x : Taken} {left : ℕ} {q : Policy}
 
   -- these and the rules still to come
   module _ {v w : ℤ} (g : v ≡ x .value) (e : w ≡ getD plan (left * 4 + 1) (pos 0)) where
-    pub all-worth : combinedOf op v w ≡ worth o all
+    all-worth : combinedOf op v w ≡ worth o all
     all-worth =
         ap (λ (p : Operator). combinedOf p v w) (h .planned .operator)
         ∙ ap₂ (combinedOf o) (g ∙ h .taken .value) (e ∙ h .planned .rows left (omega (arith, h .inside)) .rest)

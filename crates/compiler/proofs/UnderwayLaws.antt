@@ -35,7 +35,7 @@ put-sets last words n F G =
     ∙ put-lines-append last n (map maskOf F) (map maskOf G) words
     ∙ ap (λ (k : ℕ). putRecords (putRecords words n (linesUpTo last n (map maskOf F))) (n + k) (linesUpTo last (n + k) (map maskOf G))) (length-map F maskOf)
 
-pub put-none : (last : ℕ) (words : List ℕ) (n : ℕ) → putSets last words n [] ≡ words
+put-none : (last : ℕ) (words : List ℕ) (n : ℕ) → putSets last words n [] ≡ words
 unfolding putSets linesUpTo putRecords
 put-none last words n = refl
 

@@ -29,7 +29,7 @@ use Rattle.compiler.specs.Worth.{start, worth, clamped, limitOf, reached
 
 -- ---- an operator takes three scores in any grouping
 
-pub combined-assoc : (o : Operator) (a b c : ℤ) → combinedOf o (combinedOf o a b) c ≡ combinedOf o a (combinedOf o b c)
+combined-assoc : (o : Operator) (a b c : ℤ) → combinedOf o (combinedOf o a b) c ≡ combinedOf o a (combinedOf o b c)
 unfolding combinedOf
 combined-assoc Sum a b c = +ℤ-assoc a b c
 combined-assoc Mul a b c = times-assoc a b c

@@ -1,4 +1,7 @@
-// What the search asks again and again, worked out once for a policy and a threshold.
+// The plan: what the search asks again and again, worked out once for a policy and a threshold.
+// It has four cells for each number k of rules: the limit of the sets of k rules, the operator over the k rules of lowest
+// rank, and the score and the bit of the first of these. It is an array of numbers, so that it can be lent to the search;
+// a struct would be copied at every call.
 // For this crate only: no other can name these functions, and each call is proved to meet its condition.
 ghost use mathlib.Core.Path.{_≡_};
 ghost use Prim.Native.Nat.{ℕ, _+_, _^_, _≤_};
@@ -60,8 +63,7 @@ pub fn start(o: peal::Operator) -> i64
     }
 }
 
-// Row k of a plan, four cells: the limit of the sets of k rules, the operator over the k rules of lowest rank, and the score
-// and the bit of the first of these. A plan is an array of numbers, so that the search can be lent it.
+// The cells for k rules.
 fn put_row(plan: &mut [i64], k: usize, limit: i64, rest: i64, score: i64, bit: i64)
     requires { ⌜ (k ≤ 16) × (length (now plan) ≡ 68) ⌝ }
     ensures { λ r. ⌜ now (plan .exit) ≡ withRow (now (plan .entry)) k limit rest score bit ⌝ }
@@ -82,6 +84,7 @@ pub fn planned(p: book::Policy, t: i32) -> [i64; 68]
     let mut limit = first_limit(o, t);
     let mut rest = start(o);
     let mut plan = [0i64; 68];
+    // Of no rules there is no first: its cells stay 0.
     put_row(&mut plan, 0, limit, rest, 0, 0);
     let mut k = 0;
     while k < n {

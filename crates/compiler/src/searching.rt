@@ -1,4 +1,5 @@
-// The search for a policy's minimal sets, by recursion on a falling rank (document 000, figure 5).
+// The search for a policy's minimal sets, by recursion on a falling rank (document 000, figure 5). Module `planning` tells
+// the cells of a plan.
 // For this crate only: no other can name these functions, and each call is proved to meet its condition.
 use crate::planning::planned;
 use crate::planning::start;

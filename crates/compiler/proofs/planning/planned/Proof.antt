@@ -21,7 +21,7 @@ use Rattle.book.proofs.StoredRules.{count-is, operator-is, signal-at, score-at}
 use Rattle.compiler.specs.Worth.{start, worth, limitOf}
 use Rattle.compiler.specs.Planning.{ThresholdFits, restOf, nextRule, Row}
 use Rattle.compiler.proofs.LimitLaws.{limit-small}
-use Rattle.compiler.proofs.RowLaws.{row-length, row-written, rows-more}
+use Rattle.compiler.proofs.RowLaws.{row-length, rows-more}
 use Rattle.compiler.proofs.RestLaws.{worth-small, rest-start, rest-next, range-rest, next-signal, kept-room}
 use Rattle.compiler.proofs.planning.planned.Statement.{statement}
 use Rattle.compiler.proofs.planning.planned.Tie as tie
@@ -76,10 +76,8 @@ loop-holds c =
       limit-is,
       rest-is,
       λ q e j h.
-          subst (λ (plan : List ℤ). Row plan q T j) (sym (w .put-row .ensures))
-          (rows-more (replicate 68 (pos 0)) 0 limit rest (pos 0) (pos 0) q T (λ i m. absurd (omega arith))
-          (row-written (replicate 68 (pos 0)) 0 limit rest (pos 0) (pos 0) q T (omega arith) (limit-is ∙ ap (λ (o : Operator). limitOf o T 0) (operator-is p q e)) (rest-is q e)
-          (λ m. absurd (omega arith)) (λ m. absurd (omega arith))) j h),
+          rows-more (replicate 68 (pos 0)) 0 limit rest (pos 0) (pos 0) q T (omega arith) (limit-is ∙ ap (λ (o : Operator). limitOf o T 0) (operator-is p q e)) (rest-is q e)
+          (λ m. absurd (omega arith)) (λ m. absurd (omega arith)) (w .put-row .ensures) (λ i m. absurd (omega arith)) j h,
     )
 
 -- ---- a turn
@@ -186,57 +184,55 @@ put-row-requires-2 c κs =
 
 -- the row is written
 module _ (c : tie.After-put-row2 Inv-loop μ-loop) where
-  abbrev combined : tie.After-combined Inv-loop μ-loop
-  combined = c .before .before
+  abbrev with-rest : tie.After-combined Inv-loop μ-loop
+  with-rest = c .before .before
 
-  abbrev limited : tie.After-next-limit Inv-loop μ-loop
-  limited = combined .before
+  abbrev with-limit : tie.After-next-limit Inv-loop μ-loop
+  with-limit = with-rest .before
 
-  abbrev bitten : tie.After-bit Inv-loop μ-loop
-  bitten = limited .before
+  abbrev with-bit : tie.After-bit Inv-loop μ-loop
+  with-bit = with-limit .before
 
-  abbrev scored : tie.After-score Inv-loop μ-loop
-  scored = bitten .before
+  abbrev with-score : tie.After-score Inv-loop μ-loop
+  with-score = with-bit .before
 
   abbrev limit : ℤ
-  limit = toZ w64 (ofZ w64 (limited .next-limit .result))
+  limit = toZ w64 (ofZ w64 (with-limit .next-limit .result))
 
   abbrev rest : ℤ
-  rest = toZ w64 (ofZ w64 (combined .combined .result))
+  rest = toZ w64 (ofZ w64 (with-rest .combined .result))
 
-  limit-now : limit ≡ limitOf (p scored .operator) (T scored) (k scored)
+  limit-now : limit ≡ limitOf (p with-score .operator) (T with-score) (k with-score)
   limit-now =
-      let fits : SFits w64 (limited .next-limit .result) = search needs in
-      toZ-ofZ w64 (limited .next-limit .result) fits ∙ limited .next-limit .ensures (T scored) (turn scored .loop .k) (turn scored .loop .inv .2)
+      let fits : SFits w64 (with-limit .next-limit .result) = search needs in
+      toZ-ofZ w64 (with-limit .next-limit .result) fits ∙ with-limit .next-limit .ensures (T with-score) (turn with-score .loop .k) (turn with-score .loop .inv .2)
 
-  module _ (q : Policy) (e : p scored ≡ storedPolicy q) where
-    rest-now : rest ≡ worth (q .operator) (restOf (k scored) (q .rules))
+  module _ (q : Policy) (e : p with-score ≡ storedPolicy q) where
+    rest-now : rest ≡ worth (q .operator) (restOf (k with-score) (q .rules))
     rest-now =
-        let fits : SFits w64 (combined .combined .result) = search needs in
-        toZ-ofZ w64 (combined .combined .result) fits ∙ combined .combined .ensures ∙ rest-is scored q e
+        let fits : SFits w64 (with-rest .combined .result) = search needs in
+        toZ-ofZ w64 (with-rest .combined .result) fits ∙ with-rest .combined .ensures ∙ rest-is with-score q e
 
-    bit-now : toZ w64 (bitten .bit .result) ≡ pos (setOf (nextRule q (k scored) .signal ∷ []))
+    bit-now : toZ w64 (with-bit .bit .result) ≡ pos (setOf (nextRule q (k with-score) .signal ∷ []))
     bit-now =
-        toZ-ofZ w64 (pos (bitten .bit .result)) (cast-bit bitten)
-        ∙ ap pos (bitten .bit .ensures ∙ ap (λ (n : ℕ). setOf (n ∷ [])) (signal-is scored q e))
+        toZ-ofZ w64 (pos (with-bit .bit .result)) (cast-bit with-bit)
+        ∙ ap pos (with-bit .bit .ensures ∙ ap (λ (n : ℕ). setOf (n ∷ [])) (signal-is with-score q e))
 
-    rows-now : (j : ℕ) → j ≤ k scored → Row (c .put-row2 .last .0) q (T scored) j
-    rows-now j h =
-        let plan = turn scored .loop .plan in
-        subst (λ (after : List ℤ). Row after q (T scored) j) (sym (c .put-row2 .ensures))
-        (rows-more plan (k scored) limit rest (score scored) (toZ w64 (bitten .bit .result)) q (T scored) (λ i m. turn scored .loop .inv .4 q e i (omega arith))
-        (row-written plan (k scored) limit rest (score scored) (toZ w64 (bitten .bit .result)) q (T scored)
-        (omega (arith, turn scored .loop .inv .0, room (s scored), scored .before .before .loop-test .taken))
-        (limit-now ∙ ap (λ (o : Operator). limitOf o (T scored) (k scored)) (operator-is (p scored) q e)) rest-now (λ m. score-is scored q e) (λ m. bit-now)) j h)
+    rows-now : (j : ℕ) → j ≤ k with-score → Row (c .put-row2 .last .0) q (T with-score) j
+    rows-now =
+        rows-more (turn with-score .loop .plan) (k with-score) limit rest (score with-score) (toZ w64 (with-bit .bit .result)) q (T with-score)
+        (omega (arith, turn with-score .loop .inv .0, room (s with-score), with-score .before .before .loop-test .taken))
+        (limit-now ∙ ap (λ (o : Operator). limitOf o (T with-score) (k with-score)) (operator-is (p with-score) q e)) rest-now (λ m. score-is with-score q e) (λ m. bit-now)
+        (c .put-row2 .ensures) (λ i m. turn with-score .loop .inv .4 q e i (omega arith))
 
 loop-less : tie.Need-loop-less Inv-loop μ-loop
-loop-less c = omega (arith, scored (c .before) .before .before .loop-test .taken)
+loop-less c = omega (arith, with-score (c .before) .before .before .loop-test .taken)
 
 loop-again : tie.Need-loop-again Inv-loop μ-loop
 loop-again c =
     let w = c .before in
-    let g = scored w in (
-      ap length (w .put-row2 .ensures) ∙ row-length (turn g .loop .plan) (k g) (limit w) (rest w) (score g) (toZ w64 (bitten w .bit .result)) ∙ turn g .loop .inv .0,
+    let g = with-score w in (
+      ap length (w .put-row2 .ensures) ∙ row-length (turn g .loop .plan) (k g) (limit w) (rest w) (score g) (toZ w64 (with-bit w .bit .result)) ∙ turn g .loop .inv .0,
       omega (arith, g .before .before .loop-test .taken),
       limit-now w,
       rest-now w,

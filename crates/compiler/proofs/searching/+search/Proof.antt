@@ -95,8 +95,7 @@ returns t c =
     × (l .before .loop .words ≡ putSets (s .args .last) (now (s .args .words)) (s .args .at) (found q T X (s .args .rank))) =
     λ q T X h k.
     let u = l .before .loop .inv .3 q T X h k in
-    out-of-reach u k (l .loop-test .taken)
-    (sym (c .before .can-reach .ensures q T X (u .here)) ∙ not-true _ (c .if1 .taken)) in
+    out-of-reach u k (l .loop-test .taken) (sym (c .before .can-reach .ensures q T X (u .here)) ∙ not-true _ (c .if1 .taken)) in
     (λ q T X h k. over q T X h k .0, λ q T X h k. over q T X h k .1)
 
 with-rule-requires : (t : ℕ) → lts.Need-with-rule-requires (calls t) (search-at t) search′.Post Inv-loop μ-loop
@@ -123,9 +122,7 @@ module _ (t : ℕ) (c : lts.After-with-rule (calls t) (search-at t) search′.Po
     taken = c .with-rule .ensures q T X (u .here)
 
     pub searched : Searching (first .args .o) (now (first .args .plan)) (c .with-rule .result) (turn .before .loop .left - 1) q T (X ++ (nextRule q (turn .before .loop .left) ∷ []))
-    searched =
-        taken-here u k
-        (turn .loop-test .taken) reach taken
+    searched = taken-here u k (turn .loop-test .taken) reach taken
 
     tested : Searching (first .args .o) (now (first .args .plan)) (c .with-rule .result) 0 q T (X ++ (nextRule q (turn .before .loop .left) ∷ []))
     tested = none-coming searched
@@ -147,8 +144,7 @@ put-line-requires t c κs =
       omega (
         arith,
         a .5,
-        line-room u (a .4) (l .loop-test .taken)
-            (reach t w u (a .4)) (taken t w u (a .4))
+        line-room u (a .4) (l .loop-test .taken) (reach t w u (a .4)) (taken t w u (a .4))
             (sym (c .before .before .has-reached .ensures (a .0) (a .1) _ (tested t w u (a .4))) ∙ c .before .if2 .taken),
       ),
     )
@@ -163,15 +159,13 @@ loop-again : (t : ℕ) → lts.Need-loop-again (calls t) (search-at t) search′
 loop-again t c =
     let w = c .before .before .before .before .before .before in
     let l = turn t w in
-    let s = first t w in
     let p = c .before .before in (
       omega (arith, l .before .loop .inv .0),
       omega (arith, l .before .loop .inv .1),
       ap length (p .put-line .ensures) ∙ put-length (l .before .loop .words) (l .before .loop .next) _ ∙ l .before .loop .inv .2,
       λ q T X h k.
           let u = l .before .loop .inv .3 q T X h k in
-          line-passed u k (l .loop-test .taken)
-          (reach t w u k) (taken t w u k)
+          line-passed u k (l .loop-test .taken) (reach t w u k) (taken t w u k)
           (sym (p .before .before .before .has-reached .ensures q T _ (tested t w u k)) ∙ p .before .before .if2 .taken) (p .put-line .ensures),
     )
 
@@ -238,8 +232,7 @@ loop-again-2 t c =
       ap length (p .search .ensures .1 (a .0) (a .1) _ (searched t w v (a .4)) (lacking t p v (a .4))) ∙ puts-length (l .before .loop .words) (l .before .loop .next) _ ∙ l .before .loop .inv .2,
       λ q T X h k.
           let u = l .before .loop .inv .3 q T X h k in
-          passed u k (l .loop-test .taken)
-          (reach t w u k) (taken t w u k) (behind t p u k)
+          passed u k (l .loop-test .taken) (reach t w u k) (taken t w u k) (behind t p u k)
           (p .search .ensures .1 q T _ (searched t w u k) (lacking t p u k)),
     )
 
@@ -254,8 +247,7 @@ returns-2 t c =
     let over : (q : Policy) (T : ℤ) (X : List Rule) → Searching (s .args .o) (now (s .args .plan)) (s .args .x) (s .args .rank) q T X → has (q .operator) T X ≡ false
     → (l .loop .next ≡ s .args .at + length (found q T X (s .args .rank)))
     × (l .loop .words ≡ putSets (s .args .last) (now (s .args .words)) (s .args .at) (found q T X (s .args .rank))) =
-    λ q T X h k.
-    no-rule-left (l .loop .inv .3 q T X h k) k (c .loop-test .left) in
+    λ q T X h k. no-rule-left (l .loop .inv .3 q T X h k) k (c .loop-test .left) in
     (λ q T X h k. over q T X h k .0, λ q T X h k. over q T X h k .1)
 
 pub +search-spec : {M : Type 1} → statement M

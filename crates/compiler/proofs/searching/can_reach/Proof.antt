@@ -19,8 +19,7 @@ few : (s : tie.Start) → s .args .x .count + s .args .left ≤ 16
 few s = taken-few (s .pre .3)
 
 value-back : (s : tie.Start) → toZ w64 (ofZ w64 (s .args .x .value)) ≡ s .args .x .value
-value-back s =
-    toZ-ofZ w64 (s .args .x .value) (taken-fits (s .pre .3))
+value-back s = toZ-ofZ w64 (s .args .x .value) (taken-fits (s .pre .3))
 
 add-all : tie.Need-add-all
 add-all c = record { fits = omega (arith, few (c .before)) }

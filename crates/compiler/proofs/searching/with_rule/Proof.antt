@@ -25,8 +25,7 @@ few : (s : tie.Start) → s .args .x .count + s .args .left ≤ 16
 few s = taken-few (s .pre .1 .3)
 
 value-back : (s : tie.Start) → toZ w64 (ofZ w64 (s .args .x .value)) ≡ s .args .x .value
-value-back s =
-    toZ-ofZ w64 (s .args .x .value) (taken-fits (s .pre .1 .3))
+value-back s = toZ-ofZ w64 (s .args .x .value) (taken-fits (s .pre .1 .3))
 
 mul-score : tie.Need-mul-score
 mul-score c = record { fits = omega (arith, few c) }
@@ -89,9 +88,7 @@ returns c q t X h =
     let s = b .before .before in
     let fits : SFits w64 (c .combined .result) = search needs in
     record {
-      mask =
-          ap (λ (z : ℤ). s .args .x .mask + natAbs z) (bit-is b h)
-          ∙ next-mask (s .pre .0) h;
+      mask = ap (λ (z : ℤ). s .args .x .mask + natAbs z) (bit-is b h) ∙ next-mask (s .pre .0) h;
       count = next-count (s .pre .0) h;
       value =
           toZ-ofZ w64 (c .combined .result) fits ∙ c .combined .ensures
