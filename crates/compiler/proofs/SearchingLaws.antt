@@ -31,6 +31,7 @@ use Rattle.compiler.specs.Planning.{restOf, nextRule, RulesInRange, Row,
 use Rattle.compiler.specs.Searching.{IsTaken, Searching, found}
 use Rattle.compiler.specs.declared.searching.Taken.{Taken}
 use Rattle.compiler.proofs.WorthLaws.{worth-has, worth-append}
+use Rattle.compiler.proofs.MentionLaws.{bit-small}
 use Rattle.compiler.proofs.RestLaws.{no-rest, all-rest, more-rest, rest-length, worth-small}
 
 -- ---- parts of a list
@@ -85,13 +86,10 @@ mask-more : (X : List Rule) (r : Rule) → maskOf X + setOf (r .signal ∷ []) �
 unfolding maskOf
 mask-more X r = sets-more (map (λ (x : Rule). x .signal) X) (r .signal) ∙ ap setOf (sym (map-append (λ (x : Rule). x .signal) X (r ∷ [])))
 
-bit-small : (s : ℕ) → s < 16 → 2 ^ s ≤ 32768
-bit-small s h = let k : s ≤ 15 = omega arith in pow-le-pow-right {n = 2} (omega arith) k
-
 mask-small : (X : List Rule) → Each (λ (r : Rule). r .signal < 16) X → maskOf X ≤ 32768 * length X
 unfolding maskOf setOf
 mask-small [] h = omega arith
-mask-small (r ∷ X) h = omega (arith, bit-small (r .signal) (h .0), mask-small X (h .1))
+mask-small (r ∷ X) h = omega (arith, bit-small (r .signal) (omega (arith, h .0)), mask-small X (h .1))
 
 -- ---- ranges of what is taken and what is still to come
 
