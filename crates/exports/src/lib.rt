@@ -1,7 +1,7 @@
 // The calls for programs in C or Rust that link this code; include/cerahupo.h is their header.
 // Each takes every input, and returns its answer as one number. Only compiling writes, and only the lent words.
 ghost use mathlib.Core.Path.{_≡_};
-ghost use Prim.Native.Nat.{_^_, _≤_, _<_};
+ghost use Prim.Native.Nat.{_^_, _<_};
 ghost use lib.ListN.{length};
 ghost use Rattle.layout.specs.Records.{bit};
 ghost use Rattle.layout.specs.Meaning.{faultNumber, faultValue};
@@ -13,6 +13,7 @@ ghost use Rattle.score.specs.Decisions.{scoredAnswer};
 ghost use Rattle.compiler.specs.Compiling.{compiled, returned, lentAfter};
 ghost use Rattle.exports.specs.Packing.{asOne, packed, countsValue, itself, choiceValue, packedComparison};
 
+// A result by its value, which has all its bits from bit 5 on if it is below 2 to the 59.
 fn accepted(value: u64) -> u64
     requires { ⌜ value < 2 ^ 59 ⌝ }
     ensures { λ r. ⌜ r ≡ asOne 0 0 value ⌝ }
@@ -20,6 +21,7 @@ fn accepted(value: u64) -> u64
     32 * value
 }
 
+// A refusal by its number, and the line or record beside it.
 fn refused(number: u64, value: u64) -> u64
     requires { ⌜ (number < 16) × (value < 2 ^ 59) ⌝ }
     ensures { λ r. ⌜ r ≡ asOne number 0 value ⌝ }
@@ -99,7 +101,10 @@ pub extern "C" fn cerahupo_compile(bytes: &[u8], condition: u32, words: &mut [u3
 {
     let c = compiler::compile(bytes, condition, words);
     match c {
-        compiler::Compiled::Records(n) => accepted(n as u64),
+        compiler::Compiled::Records(n) => {
+            let records = n as u64;
+            accepted(records)
+        }
         compiler::Compiled::Refused(refusal) => refused_book(refusal),
         compiler::Compiled::NoCondition => refused(7, 0),
         compiler::Compiled::NoRoom => refused(8, 0),

@@ -7,7 +7,8 @@ use Rattle.book.specs.Books.{checked}
 use Rattle.book.specs.Meaning.{checkedMeaning}
 use Rattle.book.specs.declared.Checked.{Checked}
 use Rattle.exports.specs.Packing.{packed, countsValue}
-use Rattle.exports.proofs.Refusals.{in-table, checking}
+use Rattle.exports.proofs.Refusals.{in-table}
+use Rattle.exports.proofs.BookRefusals.{checking}
 use Rattle.exports.proofs.Results.{counts-small}
 use borrow.Author.Needs.{needs}
 use Rattle.exports.proofs.cerahupo_check.Statement.{statement}

@@ -6,7 +6,8 @@ use Rattle.checks.specs.Checks.{choice}
 use Rattle.checks.specs.Meaning.{choiceMeaning}
 use Rattle.checks.specs.declared.ChoiceAnswer.{ChoiceAnswer}
 use Rattle.exports.specs.Packing.{packed, choiceValue}
-use Rattle.exports.proofs.Refusals.{in-table, choosing}
+use Rattle.exports.proofs.Refusals.{in-table}
+use Rattle.exports.proofs.ListingRefusals.{choosing}
 use borrow.Author.Needs.{needs}
 use Rattle.exports.proofs.cerahupo_choice.Statement.{statement}
 use Rattle.exports.proofs.cerahupo_choice.Tie as tie

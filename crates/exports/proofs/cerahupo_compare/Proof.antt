@@ -7,7 +7,7 @@ use Rattle.checks.specs.Checks.{comparison}
 use Rattle.checks.specs.Meaning.{comparisonMeaning}
 use Rattle.checks.specs.declared.ComparisonAnswer.{ComparisonAnswer}
 use Rattle.exports.specs.Packing.{asOne, packedComparison}
-use Rattle.exports.proofs.Refusals.{first-in-table, second-in-table}
+use Rattle.exports.proofs.ListingRefusals.{first-in-table, second-in-table}
 use borrow.Author.Needs.{needs}
 use Rattle.exports.proofs.cerahupo_compare.Statement.{statement}
 use Rattle.exports.proofs.cerahupo_compare.Tie as tie

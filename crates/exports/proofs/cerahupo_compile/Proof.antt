@@ -8,7 +8,8 @@ use Rattle.compiler.specs.Meaning.{compiledMeaning}
 use Rattle.compiler.specs.declared.Compiled.{Compiled}
 use Rattle.compiler.proofs.CompiledLaws.{compiled-from}
 use Rattle.exports.specs.Packing.{packed, itself}
-use Rattle.exports.proofs.Refusals.{in-table, compiling}
+use Rattle.exports.proofs.Refusals.{in-table}
+use Rattle.exports.proofs.BookRefusals.{compiling}
 use borrow.Author.Needs.{needs}
 use Rattle.exports.proofs.cerahupo_compile.Statement.{statement}
 use Rattle.exports.proofs.cerahupo_compile.Tie as tie

@@ -7,7 +7,8 @@ use Rattle.score.specs.Decisions.{scoredAnswer}
 use Rattle.score.specs.Meaning.{scoreMeaning}
 use Rattle.score.specs.declared.Decision.{Decision}
 use Rattle.exports.specs.Packing.{packed}
-use Rattle.exports.proofs.Refusals.{in-table, deciding}
+use Rattle.exports.proofs.Refusals.{in-table}
+use Rattle.exports.proofs.BookRefusals.{deciding}
 use borrow.Author.Needs.{needs}
 use Rattle.exports.proofs.cerahupo_decide.Statement.{statement}
 use Rattle.exports.proofs.cerahupo_decide.Tie as tie

@@ -7,7 +7,8 @@ use Rattle.rod.specs.Reading.{rodAnswer}
 use Rattle.rod.specs.Meaning.{rodMeaning}
 use Rattle.rod.specs.declared.Decision.{Decision}
 use Rattle.exports.specs.Packing.{packed}
-use Rattle.exports.proofs.Refusals.{in-table, rod-reading}
+use Rattle.exports.proofs.Refusals.{in-table}
+use Rattle.exports.proofs.ListingRefusals.{rod-reading}
 use borrow.Author.Needs.{needs}
 use Rattle.exports.proofs.cerahupo_read.Statement.{statement}
 use Rattle.exports.proofs.cerahupo_read.Tie as tie
