@@ -69,32 +69,38 @@ static void ask_both(size_t length, size_t records)
     }
 }
 
-/* How calls decline: too few words, no such condition, a listing that was cut. */
+/* How calls decline. The listing is still compared after the first, which wrote no word. */
 static void show_refusals(size_t length, size_t records)
 {
     refused("one word too few", cerahupo_compile(book, length, 0, words, 4 * records - 1));
     refused("condition 8", cerahupo_decide(book, length, 8, 0));
     refused("no words", cerahupo_read(NULL, 0, 0));
 
-    uint64_t compared = cerahupo_compare(words, 4 * records, words, 4 * records - 1);
-    printf("compared with itself, cut: listing %u ", cerahupo_declined_listing(compared));
-    refused("declined", compared);
-    printf("compared with itself: %s\n", cerahupo_alike(cerahupo_compare(words, 4 * records, words, 4 * records)) ? "alike" : "different");
+    uint64_t cut = cerahupo_compare(words, 4 * records, words, 4 * records - 1);
+    printf("compared with itself cut short: listing %u refused %u\n", cerahupo_declined_listing(cut), cerahupo_number(cut));
+
+    uint64_t same = cerahupo_compare(words, 4 * records, words, 4 * records);
+    printf("compared with itself: %s\n", cerahupo_alike(same) ? "alike" : "different");
 }
 
-static size_t read_book(const char *name)
+static bool read_book(const char *name, size_t *length)
 {
     FILE *file = fopen(name, "rb");
     if (file == NULL)
-        return 0;
-    size_t length = fread(book, 1, sizeof book, file);
+        return false;
+    *length = fread(book, 1, sizeof book, file);
+    bool read = !ferror(file);
     fclose(file);
-    return length;
+    return read;
 }
 
 int main(int count, char **names)
 {
-    size_t length = count > 1 ? read_book(names[1]) : strlen((const char *)book);
+    size_t length = strlen((const char *)book);
+    if (count > 1 && !read_book(names[1], &length)) {
+        perror(names[1]);
+        return 2;
+    }
 
     uint64_t checked = cerahupo_check(book, length);
     if (!cerahupo_accepted(checked))

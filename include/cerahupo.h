@@ -1,7 +1,7 @@
 /* Cerahupo from C: the check of a book, the scored decision, compiling, the rod's reading, the choice check and the comparison.
  *
- * Link libexports.a, which `rt staticlib exports` writes. It uses memcpy of the C library and nothing else, keeps no state
- * and allocates nothing, so calls may run side by side.
+ * Link libexports.a, which `rt staticlib exports` writes for x86-64 Linux. It uses memcpy of the C library and nothing else,
+ * keeps no state and allocates nothing, so calls may run side by side.
  *
  * A book is bytes, a listing is 32-bit words, four a record; document 01 says what both mean. Each is handed over as a pointer
  * and a number of elements; with 0 elements the pointer may be anything, NULL too. Every input has an answer: none has to be
