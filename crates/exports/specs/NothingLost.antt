@@ -1,0 +1,21 @@
+-- Claimed: the number that a call returns tells its whole answer, for every input. Proved in proofs/NothingLost.antt.
+use Prim.Native.Nat.{ℕ}
+use mathlib.Core.List.{List}
+use mathlib.Core.Path.{_≡_}
+use Rattle.layout.specs.Records.{bit}
+use Rattle.rod.specs.Reading.{rodAnswer}
+use Rattle.checks.specs.Checks.{choice, comparison}
+use Rattle.book.specs.Books.{checked}
+use Rattle.score.specs.Decisions.{scoredAnswer}
+use Rattle.compiler.specs.Compiling.{compiled, returned}
+use Rattle.exports.specs.Packing.{packed, countsValue, itself, choiceValue, packedComparison}
+use Rattle.exports.specs.Unpacking.{unpacked, countsIn, yesIn, choiceIn, comparisonIn}
+
+pub record NothingLost : Type 0 where
+  pub check : (book : List ℕ) → unpacked countsIn (packed countsValue (checked book)) ≡ checked book
+  pub decide : (book : List ℕ) (condition set : ℕ) → unpacked yesIn (packed bit (scoredAnswer book condition set)) ≡ scoredAnswer book condition set
+  pub compile : (book : List ℕ) (condition lent : ℕ)
+      → unpacked itself (packed itself (returned (compiled book condition lent))) ≡ returned (compiled book condition lent)
+  pub read : (words : List ℕ) (set : ℕ) → unpacked yesIn (packed bit (rodAnswer words set)) ≡ rodAnswer words set
+  pub choose : (words : List ℕ) → unpacked choiceIn (packed choiceValue (choice words)) ≡ choice words
+  pub compare : (one two : List ℕ) → comparisonIn (packedComparison (comparison one two)) ≡ comparison one two

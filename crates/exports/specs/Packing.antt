@@ -1,0 +1,38 @@
+-- An answer as the one number that a call returns: bits 0 to 3 hold document 01's refusal number, 0 where the call was accepted;
+-- bit 4 is 1 only where the comparison declined its second listing; the bits from 5 on hold the value.
+use Prim.Native.Nat.{ℕ, _+_, _*_}
+use Rattle.answers.specs.Answers.{Answer, result, refused}
+use Rattle.checks.specs.Checks.{Choice, always, never, both, Comparison, alike, differ, declined, first, second}
+use Rattle.book.specs.Books.{Counts}
+
+abbrev pub asOne : (number which value : ℕ) → ℕ
+asOne number which value = number + 16 * which + 32 * value
+
+-- on a refusal the value is the line or record beside it, otherwise that of the result
+unfoldable pub packed : {A : Type 0} → (A → ℕ) → Answer A → ℕ
+packed valueOf (result a) = asOne 0 0 (valueOf a)
+packed valueOf (refused number value) = asOne number 0 value
+
+-- ---- the values of results; for yes and no it is `bit`
+
+-- the check of a book: policies, and from bit 16 of the number on conditions
+unfoldable pub countsValue : Counts → ℕ
+countsValue n = n .policies + 2048 * n .conditions
+
+-- compiling: the number of records itself
+abbrev pub itself : ℕ → ℕ
+itself n = n
+
+-- the choice check: which it is, and for both from bit 16 on the lowest set that gives yes, from bit 32 on the lowest that gives no
+unfoldable pub choiceValue : Choice → ℕ
+choiceValue always = 0
+choiceValue never = 1
+choiceValue (both y n) = 2 + 2048 * y + 134217728 * n
+
+-- the comparison: 0 alike, 1 where the second says yes, 3 where the first does, and from bit 16 on the lowest set where they differ
+unfoldable pub packedComparison : Comparison → ℕ
+packedComparison alike = asOne 0 0 0
+packedComparison (differ set first) = asOne 0 0 (3 + 2048 * set)
+packedComparison (differ set second) = asOne 0 0 (1 + 2048 * set)
+packedComparison (declined first number value) = asOne number 0 value
+packedComparison (declined second number value) = asOne number 1 value

@@ -1,0 +1,42 @@
+-- The answer told again from the number that a call returned, as the header's functions tell it.
+use Prim.Native.Nat.{ℕ, _/_, _%_}
+use mathlib.Core.Bool.{Bool, cond}
+use lib.Dec.{eqb}
+use Rattle.answers.specs.Answers.{Answer, result, refused}
+use Rattle.checks.specs.Checks.{Choice, always, never, both, Which, first, second, Comparison, alike, differ, declined}
+use Rattle.book.specs.Books.{Counts}
+
+-- the refusal's number, or 0; 1 for the second listing of a comparison; the value
+unfoldable pub numberIn : ℕ → ℕ
+numberIn r = r % 16
+
+unfoldable pub whichIn : ℕ → ℕ
+whichIn r = r / 16 % 2
+
+unfoldable pub valueIn : ℕ → ℕ
+valueIn r = r / 32
+
+-- the answer, from the result that a value stands for
+unfoldable pub unpacked : {A : Type 0} → (ℕ → A) → ℕ → Answer A
+unpacked resultIn r = cond (eqb (numberIn r) 0) (result (resultIn (valueIn r))) (refused (numberIn r) (valueIn r))
+
+-- ---- the results that values stand for
+
+unfoldable pub countsIn : ℕ → Counts
+countsIn v = record { policies = v % 2048; conditions = v / 2048 }
+
+unfoldable pub yesIn : ℕ → Bool
+yesIn v = eqb v 1
+
+unfoldable pub choiceIn : ℕ → Choice
+choiceIn v = cond (eqb v 0) always (cond (eqb v 1) never (both (v / 2048 % 65536) (v / 134217728)))
+
+-- one of the two listings, by a test for the first
+unfoldable pub whichOf : Bool → Which
+whichOf t = cond t first second
+
+unfoldable pub differenceIn : ℕ → Comparison
+differenceIn v = cond (eqb v 0) alike (differ (v / 2048) (whichOf (eqb (v % 2048) 3)))
+
+unfoldable pub comparisonIn : ℕ → Comparison
+comparisonIn r = cond (eqb (numberIn r) 0) (differenceIn (valueIn r)) (declined (whichOf (eqb (whichIn r) 0)) (numberIn r) (valueIn r))

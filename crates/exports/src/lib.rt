@@ -1,0 +1,163 @@
+// The calls for programs in C or Rust that link this code; include/cerahupo.h is their header.
+// Each takes every input, and returns its answer as one number. Only compiling writes, and only the lent words.
+ghost use mathlib.Core.Path.{_≡_};
+ghost use Prim.Native.Nat.{_^_, _<_};
+ghost use lib.ListN.{length};
+ghost use Rattle.layout.specs.Records.{bit};
+ghost use Rattle.layout.specs.Meaning.{faultNumber, faultValue};
+ghost use Rattle.rod.specs.Reading.{rodAnswer};
+ghost use Rattle.checks.specs.Checks.{choice, comparison};
+ghost use Rattle.book.specs.Books.{checked};
+ghost use Rattle.book.specs.Meaning.{reasonNumber};
+ghost use Rattle.score.specs.Decisions.{scoredAnswer};
+ghost use Rattle.compiler.specs.Compiling.{compiled, returned, lentAfter};
+ghost use Rattle.exports.specs.Packing.{asOne, packed, countsValue, itself, choiceValue, packedComparison};
+
+// A result by its value, which has all its bits from bit 5 on if it is below 2 to the 59.
+fn accepted(value: u64) -> u64
+    requires { ⌜ value < 2 ^ 59 ⌝ }
+    ensures { λ r. ⌜ r ≡ asOne 0 0 value ⌝ }
+{
+    32 * value
+}
+
+// A refusal by its number, and the line or record beside it.
+fn refused(number: u64, value: u64) -> u64
+    requires { ⌜ (number < 16) × (value < 2 ^ 59) ⌝ }
+    ensures { λ r. ⌜ r ≡ asOne number 0 value ⌝ }
+{
+    number + 32 * value
+}
+
+fn reason_number(reason: book::Reason) -> u64
+    ensures { λ r. ⌜ (r ≡ reasonNumber reason) × (r < 16) ⌝ }
+{
+    match reason {
+        book::Reason::TooLong => 1,
+        book::Reason::NoForm => 2,
+        book::Reason::OutOfPlace => 3,
+        book::Reason::TooMany => 4,
+        book::Reason::OutOfRange => 5,
+        book::Reason::Repeated => 6,
+    }
+}
+
+fn refused_book(refusal: book::Refusal) -> u64
+    requires { ⌜ refusal .line < 2 ^ 59 ⌝ }
+    ensures { λ r. ⌜ r ≡ asOne (reasonNumber (refusal .reason)) 0 (refusal .line) ⌝ }
+{
+    let reason = refusal.reason;
+    let line = refusal.line as u64;
+    refused(reason_number(reason), line)
+}
+
+fn refused_listing(fault: layout::Fault) -> u64
+    requires { ⌜ faultValue fault < 2 ^ 59 ⌝ }
+    ensures { λ r. ⌜ r ≡ asOne (faultNumber fault) 0 (faultValue fault) ⌝ }
+{
+    match fault {
+        layout::Fault::Length => refused(9, 0),
+        layout::Fault::Record(n) => {
+            let record = n as u64;
+            refused(10, record)
+        }
+    }
+}
+
+#[no_mangle]
+pub extern "C" fn cerahupo_check(bytes: &[u8]) -> u64
+    ensures { λ r. ⌜ r ≡ packed countsValue (checked (now (bytes .entry))) ⌝ }
+{
+    let c = book::check(bytes);
+    match c {
+        book::Checked::Accepted {
+            policies,
+            conditions,
+        } => {
+            let value = policies as u64 + 2048 * conditions as u64;
+            accepted(value)
+        }
+        book::Checked::Refused(refusal) => refused_book(refusal),
+    }
+}
+
+#[no_mangle]
+pub extern "C" fn cerahupo_decide(bytes: &[u8], condition: u32, set: u16) -> u64
+    ensures { λ r. ⌜ r ≡ packed bit (scoredAnswer (now (bytes .entry)) condition set) ⌝ }
+{
+    let d = score::decide(bytes, condition, set);
+    match d {
+        score::Decision::Yes => accepted(1),
+        score::Decision::No => accepted(0),
+        score::Decision::Refused(refusal) => refused_book(refusal),
+        score::Decision::NoCondition => refused(7, 0),
+    }
+}
+
+#[no_mangle]
+pub extern "C" fn cerahupo_compile(bytes: &[u8], condition: u32, words: &mut [u32]) -> u64
+    ensures { λ r. ⌜ r ≡ packed itself (returned (compiled (now (bytes .entry)) condition (length (now (words .entry))))) ⌝ }
+    ensures { λ r. ⌜ now (words .exit) ≡ lentAfter (now (words .entry)) (compiled (now (bytes .entry)) condition (length (now (words .entry)))) ⌝ }
+{
+    let c = compiler::compile(bytes, condition, words);
+    match c {
+        compiler::Compiled::Records(n) => {
+            let records = n as u64;
+            accepted(records)
+        }
+        compiler::Compiled::Refused(refusal) => refused_book(refusal),
+        compiler::Compiled::NoCondition => refused(7, 0),
+        compiler::Compiled::NoRoom => refused(8, 0),
+    }
+}
+
+#[no_mangle]
+pub extern "C" fn cerahupo_read(words: &[u32], set: u16) -> u64
+    ensures { λ r. ⌜ r ≡ packed bit (rodAnswer (now (words .entry)) set) ⌝ }
+{
+    let d = rod::decide(words, set);
+    match d {
+        rod::Decision::Yes => accepted(1),
+        rod::Decision::No => accepted(0),
+        rod::Decision::Declined(fault) => refused_listing(fault),
+    }
+}
+
+#[no_mangle]
+pub extern "C" fn cerahupo_choice(words: &[u32]) -> u64
+    ensures { λ r. ⌜ r ≡ packed choiceValue (choice (now (words .entry))) ⌝ }
+{
+    let c = checks::choice(words);
+    match c {
+        checks::ChoiceAnswer::Always => accepted(0),
+        checks::ChoiceAnswer::Never => accepted(1),
+        checks::ChoiceAnswer::Both(y, n) => {
+            let value = 2 + 2048 * y as u64 + 134217728 * n as u64;
+            accepted(value)
+        }
+        checks::ChoiceAnswer::Declined(fault) => refused_listing(fault),
+    }
+}
+
+#[no_mangle]
+pub extern "C" fn cerahupo_compare(one: &[u32], two: &[u32]) -> u64
+    ensures { λ r. ⌜ r ≡ packedComparison (comparison (now (one .entry)) (now (two .entry))) ⌝ }
+{
+    let c = checks::compare(one, two);
+    match c {
+        checks::ComparisonAnswer::Alike => accepted(0),
+        checks::ComparisonAnswer::FirstYes(set) => {
+            let value = 3 + 2048 * set as u64;
+            accepted(value)
+        }
+        checks::ComparisonAnswer::SecondYes(set) => {
+            let value = 1 + 2048 * set as u64;
+            accepted(value)
+        }
+        checks::ComparisonAnswer::FirstDeclined(fault) => refused_listing(fault),
+        checks::ComparisonAnswer::SecondDeclined(fault) => {
+            let packed = refused_listing(fault);
+            packed + 16
+        }
+    }
+}

@@ -1,0 +1,93 @@
+/* Cerahupo from C: the check of a book, the scored decision, compiling, the rod's reading, the choice check and the comparison.
+ *
+ * Link libexports.a, which `rt staticlib exports` writes for x86-64 Linux. It uses memcpy of the C library and nothing else,
+ * keeps no state and allocates nothing, so calls may run side by side.
+ *
+ * A book is bytes, a listing is 32-bit words, four a record; document 01 says what both mean. Each is handed over as a pointer
+ * and a number of elements; with 0 elements the pointer may be anything, NULL too. Every input has an answer: none has to be
+ * checked before a call. Nothing is written but the words lent to cerahupo_compile.
+ *
+ * A call returns one number, which tells its whole answer:
+ *
+ *     bits 0 to 3    0 where the call was accepted, else the refusal's number in document 01's table, 1 to 10
+ *     bit 4          1 only where cerahupo_compare declined its second listing
+ *     bits 5 to 63   the value: on a refusal the line or the record beside it (0 where the table has 0), otherwise the result
+ *
+ * The functions at the end take it apart. */
+
+#ifndef CERAHUPO_H
+#define CERAHUPO_H
+
+#include <stdbool.h>
+#include <stddef.h>
+#include <stdint.h>
+
+#ifdef __cplusplus
+extern "C" {
+#endif
+
+/* ---- the calls */
+
+/* The check of a book. Result: how many policies and conditions it has. Refusals: 1 to 6 with the line, which counts from 1
+ * and is 0 for the whole book. */
+uint64_t cerahupo_check(const uint8_t *book, size_t book_length);
+
+/* The scored decision, for loggers: a condition of the book, counted from 0, on a signal set (signal S is bit S). Result: yes
+ * or no. Refusals: those of the book, then 7. */
+uint64_t cerahupo_decide(const uint8_t *book, size_t book_length, uint32_t condition, uint16_t set);
+
+/* Compiling a condition of the book into the lent words, which the book must not overlap. Result: the number of records; the
+ * first four words for each are the listing, and the words beyond them are not written. Refusals: those of the book, then 7,
+ * then 8; on a refusal no word is written. */
+uint64_t cerahupo_compile(const uint8_t *book, size_t book_length, uint32_t condition, uint32_t *words, size_t words_length);
+
+/* The rod's reading of a listing on a signal set. Result: yes or no. Refusals: 9, or 10 with the record, which counts from 1. */
+uint64_t cerahupo_read(const uint32_t *words, size_t words_length, uint16_t set);
+
+/* The choice check of a listing over all 65,536 signal sets. Result: always, never, or both with the lowest set that gives yes
+ * and the lowest that gives no. Refusals: those of cerahupo_read. */
+uint64_t cerahupo_choice(const uint32_t *words, size_t words_length);
+
+/* The comparison of two listings, which may overlap, over all 65,536 signal sets. Result: alike, or the lowest set where they
+ * differ and which says yes there. Refusals: those of cerahupo_read, of the first listing, then of the second. */
+uint64_t cerahupo_compare(const uint32_t *one, size_t one_length, const uint32_t *two, size_t two_length);
+
+/* ---- the number taken apart */
+
+/* 0 where the call was accepted, else the refusal's number. */
+static inline unsigned cerahupo_number(uint64_t answer) { return (unsigned)(answer & 15); }
+
+static inline bool cerahupo_accepted(uint64_t answer) { return cerahupo_number(answer) == 0; }
+
+/* On a refusal: the line or the record. */
+static inline uint64_t cerahupo_value(uint64_t answer) { return answer >> 5; }
+
+/* On a refusal by cerahupo_compare: 1 or 2, the listing that was declined. */
+static inline unsigned cerahupo_declined_listing(uint64_t answer) { return 1 + (unsigned)(answer >> 4 & 1); }
+
+/* cerahupo_check, accepted. */
+static inline unsigned cerahupo_policies(uint64_t answer) { return (unsigned)(answer >> 5 & 2047); }
+static inline unsigned cerahupo_conditions(uint64_t answer) { return (unsigned)(answer >> 16); }
+
+/* cerahupo_decide and cerahupo_read: accepted, and yes. A refusal is no yes. */
+static inline bool cerahupo_yes(uint64_t answer) { return answer == 32; }
+
+/* cerahupo_compile: the number of records, 0 on a refusal. A listing has at least one. */
+static inline size_t cerahupo_records(uint64_t answer) { return cerahupo_accepted(answer) ? (size_t)(answer >> 5) : 0; }
+
+/* cerahupo_choice, accepted: which it is, and for both the two sets. */
+enum { CERAHUPO_ALWAYS = 0, CERAHUPO_NEVER = 1, CERAHUPO_BOTH = 2 };
+static inline unsigned cerahupo_choice_kind(uint64_t answer) { return (unsigned)(answer >> 5 & 2047); }
+static inline uint16_t cerahupo_lowest_yes(uint64_t answer) { return (uint16_t)(answer >> 16); }
+static inline uint16_t cerahupo_lowest_no(uint64_t answer) { return (uint16_t)(answer >> 32); }
+
+/* cerahupo_compare: accepted, and alike; where they are not, the set, and 1 or 2, the listing that says yes there. */
+static inline bool cerahupo_alike(uint64_t answer) { return answer == 0; }
+static inline uint16_t cerahupo_lowest_difference(uint64_t answer) { return (uint16_t)(answer >> 16); }
+static inline unsigned cerahupo_yes_listing(uint64_t answer) { return (answer >> 5 & 2047) == 3 ? 1 : 2; }
+
+#ifdef __cplusplus
+}
+#endif
+
+#endif
