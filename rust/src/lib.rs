@@ -2,6 +2,15 @@
 //!
 //! Nothing is refused here. Each slice is handed on whatever it holds, and what the call told is returned.
 //! "Document 01" is the office's scope paper; a signal set is a 16-bit number, signal S its bit S.
+//!
+//! ```
+//! let book = b"p sum 0\nr 0 40\nr 1 30\nr 2 30\nc 50 < p0\n";
+//! let mut words = [0; 64];
+//! let records = cerahupo::compile(book, 0, &mut words)?;
+//! let listing = &words[..4 * records as usize];
+//! assert_eq!(cerahupo::read(listing, 3), cerahupo::decide(book, 0, 3));
+//! # Ok::<(), cerahupo::Refusal>(())
+//! ```
 
 pub mod raw;
 

@@ -2,7 +2,7 @@
 
 use crate::agreed;
 use crate::inputs::random::{Random, rounds};
-use crate::inputs::{Inside, books};
+use crate::inputs::{Inside, books, damage};
 use crate::tally::Tally;
 use cerahupo::Decision;
 
@@ -10,8 +10,8 @@ use cerahupo::Decision;
 fn book(random: &mut Random) -> Inside<u8> {
     let bytes = match random.below(8) {
         0..3 => books::valid(random),
-        3..7 => books::damaged(random),
-        _ => books::soup(random),
+        3..7 => damage::damaged(random),
+        _ => damage::soup(random),
     };
     Inside::new(&bytes, random, |random| *random.pick(b"\n\n pr01"))
 }

@@ -1,7 +1,7 @@
 //! Conditions compiled into lent words, and the rod on what was compiled.
 
 use crate::inputs::random::{Random, rounds};
-use crate::inputs::{Inside, books};
+use crate::inputs::{Inside, books, damage};
 use crate::tally::Tally;
 use crate::{agreed, reference};
 use cerahupo::Decision;
@@ -28,7 +28,7 @@ fn compile() {
     let mut random = Random::of("compile");
     let mut tally = Tally::new("compile");
     for _ in 0..rounds(10_000) {
-        let book = if random.one_in(4) { books::damaged(&mut random) } else { books::valid(&mut random) };
+        let book = if random.one_in(4) { damage::damaged(&mut random) } else { books::valid(&mut random) };
         let conditions = reference::check(&book).map_or(1, |counts| counts.conditions);
         let condition = books::condition_number(conditions, &mut random);
         let words = reference::listing_of(&book, condition).map_or(40, |words| words.len());
@@ -78,19 +78,26 @@ fn rod_and_scores() {
     tally.finish(&["listings", "yes", "no"]);
 }
 
+/// A book that can be decided 65,536 times for each of its conditions.
+fn short_book(random: &mut Random) -> Vec<u8> {
+    loop {
+        let book = books::valid(random);
+        if book.len() < 150 && book.contains(&b'c') {
+            return book;
+        }
+    }
+}
+
 #[test]
 fn rod_and_scores_on_all_sets() {
     let mut random = Random::of("rod and scores on all sets");
     let mut tally = Tally::new("rod and scores on all sets");
     let sets: Vec<u16> = (0..=u16::MAX).collect();
     let mut words = vec![0; 2_000];
-    for _ in 0..rounds(30) {
-        let book = books::valid(&mut random);
-        if book.len() < 150 {
-            compare_rod(&book, &sets, &mut words, &mut tally);
-        }
+    for _ in 0..rounds(5) {
+        compare_rod(&short_book(&mut random), &sets, &mut words, &mut tally);
     }
-    tally.finish(&["listings", "yes", "no"]);
+    tally.finish(&["listings"]);
 }
 
 /// A sum of 16 equal scores has 12,870 lines of eight rules; 16 mentions of it make the longest listing tried here.

@@ -27,6 +27,19 @@ fn read() {
     tally.finish(&["yes", "no", "refusal 9", "refusal 10"]);
 }
 
+#[test]
+fn read_of_long_listings() {
+    let mut random = Random::of("long listings");
+    let mut tally = Tally::new("read of long listings");
+    for _ in 0..rounds(60) {
+        let damaged = random.one_in(2);
+        let words = if damaged { listings::damaged(20_000, &mut random) } else { listings::sound(20_000, &mut random) };
+        let answer = agreed::read(&words, random.set());
+        tally.count_answer(answer, |_| if words.len() / 4 > 65_536 { "over 65,536 records" } else { "fewer records" });
+    }
+    tally.finish(&["fewer records", "refusal 10"]);
+}
+
 /// Every value of every word of a small listing around the right one, and every shorter slice.
 #[test]
 fn read_of_every_small_change() {

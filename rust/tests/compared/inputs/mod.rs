@@ -1,6 +1,7 @@
 //! Random inputs: books and listings, good and damaged.
 
 pub mod books;
+pub mod damage;
 pub mod listings;
 pub mod random;
 

@@ -24,61 +24,71 @@ impl Tree {
 
 type Record = [u32; 4];
 
+/// What the records so far leave: trees that no join has taken, and the mask of the policy that a line here belongs to.
+#[derive(Default)]
+struct SoFar {
+    values: Vec<Tree>,
+    owner: Option<u32>,
+}
+
 /// The tree of a sound listing, or its refusal.
 pub fn take(words: &[u32]) -> Result<Tree, Refusal> {
     let (records, []) = words.as_chunks::<4>() else { return refused(9, 0) };
     if records.is_empty() {
         return refused(9, 0);
     }
-    let mut values = Vec::new();
+    let mut so_far = SoFar::default();
     for place in 0..records.len() {
-        if take_record(records, place, &mut values).is_none() {
+        if take_record(records, place, &mut so_far).is_none() {
             return refused(10, place + 1);
         }
     }
-    match values.pop() {
-        Some(tree) if values.is_empty() => Ok(tree),
+    match so_far.values.pop() {
+        Some(tree) if so_far.values.is_empty() => Ok(tree),
         _ => refused(10, records.len()),
     }
 }
 
-/// Takes the record at a place, counted from 0, among the values; nothing if it breaks the layout.
-fn take_record(records: &[Record], place: usize, values: &mut Vec<Tree>) -> Option<()> {
-    let [kind, mask, lines, next] = records[place];
-    let following = if place + 1 == records.len() { 0 } else { place + 2 };
-    match kind {
-        4 => take_line(records, place)?,
-        16..=19 => {
-            let behind = lines_behind(records, place);
-            let nodes = records[..place].iter().filter(|record| (16..=19).contains(&record[0])).count();
-            let node = place + 1 + behind.len();
-            let right_next = if node == records.len() { 0 } else { node + 1 };
-            require(mask <= 65_535 && nodes < 16)?;
-            require(lines as usize == if behind.is_empty() { 0 } else { place + 2 } && next as usize == right_next)?;
-            values.push(Tree::Policy { quiet: kind % 2 == 1, turned: kind >= 18, mask, lines: behind });
-        }
-        2 | 3 => {
-            require(mask == 0 && lines == 0 && next as usize == following)?;
-            let (right, left) = (Box::new(values.pop()?), Box::new(values.pop()?));
-            values.push(if kind == 2 { Tree::And(left, right) } else { Tree::Or(left, right) });
-        }
-        _ => return None,
+/// Takes the record at a place, counted from 0; nothing if it breaks the layout.
+fn take_record(records: &[Record], place: usize, so_far: &mut SoFar) -> Option<()> {
+    match records[place][0] {
+        4 => take_line(records, place, so_far.owner?),
+        16..=19 => take_policy(records, place, so_far),
+        2 | 3 => take_join(records, place, so_far),
+        _ => None,
     }
+}
+
+fn take_policy(records: &[Record], place: usize, so_far: &mut SoFar) -> Option<()> {
+    let [kind, mask, first, next] = records[place];
+    let lines: Vec<u32> = records[place + 1..].iter().take_while(|record| record[0] == 4).map(|line| line[1]).collect();
+    let earlier = records[..place].iter().filter(|record| (16..=19).contains(&record[0])).count();
+    require(mask <= 65_535 && earlier < 16)?;
+    require(first as usize == if lines.is_empty() { 0 } else { place + 2 })?;
+    require(next as usize == number_at(records, place + 1 + lines.len()))?;
+    so_far.owner = Some(mask);
+    so_far.values.push(Tree::Policy { quiet: kind % 2 == 1, turned: kind >= 18, mask, lines });
     Some(())
 }
 
-/// A line lies inside the mask of the policy that its run follows; a run that follows none has no policy.
-fn take_line(records: &[Record], place: usize) -> Option<()> {
+fn take_line(records: &[Record], place: usize, owner: u32) -> Option<()> {
     let [_, mask, lines, next] = records[place];
-    let owner = records[..place].iter().rev().find(|record| record[0] != 4)?;
-    let right_next = if records.get(place + 1).is_some_and(|record| record[0] == 4) { place + 2 } else { 0 };
-    require((16..=19).contains(&owner[0]) && mask & owner[1] == mask)?;
-    require(lines == 0 && next as usize == right_next)
+    let line_follows = records.get(place + 1).is_some_and(|record| record[0] == 4);
+    require(mask & owner == mask && lines == 0 && next as usize == if line_follows { place + 2 } else { 0 })
 }
 
-/// The masks of the lines that follow a record directly.
-fn lines_behind(records: &[Record], place: usize) -> Vec<u32> {
-    records[place + 1..].iter().take_while(|record| record[0] == 4).map(|record| record[1]).collect()
+fn take_join(records: &[Record], place: usize, so_far: &mut SoFar) -> Option<()> {
+    let [kind, mask, lines, next] = records[place];
+    require(mask == 0 && lines == 0 && next as usize == number_at(records, place + 1))?;
+    let (right, left) = (Box::new(so_far.values.pop()?), Box::new(so_far.values.pop()?));
+    so_far.owner = None;
+    so_far.values.push(if kind == 2 { Tree::And(left, right) } else { Tree::Or(left, right) });
+    Some(())
+}
+
+/// The number of the record at a place, 0 behind the last.
+fn number_at(records: &[Record], place: usize) -> usize {
+    if place < records.len() { place + 1 } else { 0 }
 }
 
 fn require(holds: bool) -> Option<()> {
