@@ -1,0 +1,159 @@
+//! Judging, reading and checking listings.
+
+use super::{decision, refused};
+use cerahupo::{Choice, Comparison, Decision, Declined, Listing, Refusal};
+
+type Record = [u32; 4];
+
+/// The records of a sound listing, or its refusal.
+fn check(words: &[u32]) -> Result<&[Record], Refusal> {
+    let (records, rest) = words.as_chunks::<4>();
+    if records.is_empty() || !rest.is_empty() {
+        return refused(9, 0);
+    }
+    let mut at = 0;
+    let (mut values, mut policies) = (0, 0);
+    while at < records.len() {
+        let [kind, mask, lines, next] = records[at];
+        match kind {
+            16..=19 => {
+                let behind = records[at + 1..].iter().take_while(|record| record[0] == 4).count();
+                let node = at + 1 + behind;
+                let right_lines = if behind == 0 { 0 } else { at + 2 };
+                let right_next = if node == records.len() { 0 } else { node + 1 };
+                policies += 1;
+                if mask > 65_535 || policies > 16 || lines as usize != right_lines || next as usize != right_next {
+                    return refused(10, at + 1);
+                }
+                check_lines(&records[at + 1..node], mask, at + 2)?;
+                values += 1;
+                at = node;
+            }
+            2 | 3 => {
+                let right_next = if at + 1 == records.len() { 0 } else { at + 2 };
+                if mask != 0 || lines != 0 || next as usize != right_next || values < 2 {
+                    return refused(10, at + 1);
+                }
+                values -= 1;
+                at += 1;
+            }
+            _ => return refused(10, at + 1),
+        }
+    }
+    if values == 1 { Ok(records) } else { refused(10, records.len()) }
+}
+
+/// Judges the lines of a policy; the first has the number given.
+fn check_lines(lines: &[Record], policy: u32, first: usize) -> Result<(), Refusal> {
+    for (index, &[_, mask, none, next]) in lines.iter().enumerate() {
+        let right_next = if index + 1 == lines.len() { 0 } else { first + index + 1 };
+        if mask & !policy != 0 || none != 0 || next as usize != right_next {
+            return refused(10, first + index);
+        }
+    }
+    Ok(())
+}
+
+pub fn read(words: &[u32], set: u16) -> Result<Decision, Refusal> {
+    let records = check(words)?;
+    let mut values = 0u32;
+    let mut at = 0;
+    loop {
+        let [kind, mask, lines, next] = records[at];
+        values = match kind {
+            2 => join(values, |left, right| left & right),
+            3 => join(values, |left, right| left | right),
+            _ => {
+                let behind = if lines == 0 { &[] } else { &records[lines as usize - 1..] };
+                let own = behind.iter().take_while(|record| record[0] == 4);
+                values << 1 | u32::from(policy_says(kind, mask, set, own.map(|record| record[1])))
+            }
+        };
+        if next == 0 {
+            return Ok(decision(values == 1));
+        }
+        at = next as usize - 1;
+    }
+}
+
+/// Takes the last two values, the lowest bits, and puts back their join.
+fn join(values: u32, with: impl Fn(u32, u32) -> u32) -> u32 {
+    values >> 2 << 1 | with(values >> 1 & 1, values & 1)
+}
+
+fn policy_says(kind: u32, mask: u32, set: u16, mut lines: impl Iterator<Item = u32>) -> bool {
+    let absent = !u32::from(set);
+    if mask & !absent == 0 { kind & 1 == 1 } else { lines.any(|line| line & absent == 0) != (kind & 2 != 0) }
+}
+
+/// A listing made ready for many readings.
+struct Ready {
+    nodes: Vec<Node>,
+    lines: Vec<u16>,
+}
+
+/// A node; a policy's lines are a part of all lines.
+struct Node {
+    kind: u32,
+    mask: u32,
+    from: usize,
+    to: usize,
+}
+
+impl Ready {
+    fn new(words: &[u32]) -> Result<Ready, Refusal> {
+        let records = check(words)?;
+        let mut ready = Ready { nodes: Vec::with_capacity(31), lines: Vec::with_capacity(records.len()) };
+        for &[kind, mask, ..] in records {
+            if kind == 4 {
+                ready.lines.push(mask as u16);
+                if let Some(node) = ready.nodes.last_mut() {
+                    node.to += 1;
+                }
+            } else {
+                let from = ready.lines.len();
+                ready.nodes.push(Node { kind, mask, from, to: from });
+            }
+        }
+        Ok(ready)
+    }
+
+    fn says(&self, set: u16) -> bool {
+        let mut values = 0;
+        for node in &self.nodes {
+            values = match node.kind {
+                2 => join(values, |left, right| left & right),
+                3 => join(values, |left, right| left | right),
+                kind => {
+                    let lines = self.lines[node.from..node.to].iter().map(|&line| line.into());
+                    values << 1 | u32::from(policy_says(kind, node.mask, set, lines))
+                }
+            };
+        }
+        values == 1
+    }
+}
+
+pub fn choice(words: &[u32]) -> Result<Choice, Refusal> {
+    let listing = Ready::new(words)?;
+    let first = listing.says(0);
+    Ok(match (1..=u16::MAX).find(|&set| listing.says(set) != first) {
+        None if first => Choice::Always,
+        None => Choice::Never,
+        Some(no) if first => Choice::Both { yes: 0, no },
+        Some(yes) => Choice::Both { yes, no: 0 },
+    })
+}
+
+pub fn compare(one: &[u32], two: &[u32]) -> Result<Comparison, Declined> {
+    let first = Ready::new(one).map_err(|refusal| Declined { listing: Listing::First, refusal })?;
+    let second = Ready::new(two).map_err(|refusal| Declined { listing: Listing::Second, refusal })?;
+    for set in 0..=u16::MAX {
+        let yes = first.says(set);
+        if yes != second.says(set) {
+            let yes = if yes { Listing::First } else { Listing::Second };
+            return Ok(Comparison::Differ { set, yes });
+        }
+    }
+    Ok(Comparison::Alike)
+}

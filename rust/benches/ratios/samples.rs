@@ -1,0 +1,56 @@
+//! Books and listings of growing size.
+
+/// Document 01's book.
+pub const SAMPLE: &str = "p sum 0\nr 0 40\nr 1 30\nr 2 30\np min 100\nr 3 20\nc 50 < min(p0,p1)\n";
+
+/// A policy with so many rules.
+pub fn policy(operator: &str, rules: usize, score: impl Fn(usize) -> i64) -> String {
+    let rules: String = (0..rules).map(|signal| format!("r {signal} {}\n", score(signal))).collect();
+    format!("p {operator} 5\n{rules}")
+}
+
+/// So many policies of 16 rules, and as many conditions, eight at most, each over 13 mentions.
+pub fn wide_book(policies: usize) -> String {
+    let operators = ["sum", "max", "min"];
+    let text: String =
+        (0..policies).map(|p| policy(operators[p % 3], 16, |signal| 9_000 + (37 * signal) as i64)).collect();
+    let conditions: String =
+        (1..=policies.min(8)).map(|c| format!("c {c}000 < {}\n", mentions(13, policies))).collect();
+    text + &conditions
+}
+
+/// An expression that mentions policies in turn, joined from the left.
+pub fn mentions(count: usize, policies: usize) -> String {
+    (1..count).fold("p0".to_string(), |set, mention| {
+        let name = if mention % 2 == 0 { "min" } else { "max" };
+        format!("{name}({set},p{})", mention % policies)
+    })
+}
+
+/// One sum of so many equal scores, of which more than half must be present: the most lines that so many rules have.
+pub fn sum_book(rules: usize) -> String {
+    format!("{}c {} < p0\n", policy("sum", rules, |_| 1), rules / 2 - 1)
+}
+
+/// The same with a second policy that never lets the condition be met, so that every set is walked.
+pub fn never_book(rules: usize) -> String {
+    format!("{}p min\nc {} < min(p0,p1)\n", policy("sum", rules, |_| 1), rules / 2 - 1)
+}
+
+/// 15 mentions of one sum, and again one that never lets the condition be met.
+pub fn never_mentions(rules: usize) -> String {
+    format!("{}p min\nc {} < min({},p1)\n", policy("sum", rules, |_| 1), rules / 2 - 1, mentions(15, 1))
+}
+
+/// 16 mentions of one sum.
+pub fn many_mentions(rules: usize) -> String {
+    format!("{}c {} < {}\n", policy("sum", rules, |_| 1), rules / 2 - 1, mentions(16, 1))
+}
+
+/// The listing of a book's condition 0.
+pub fn listing(book: &str) -> Vec<u32> {
+    let mut words = vec![0; 1 << 20];
+    let records = cerahupo::compile(book.as_bytes(), 0, &mut words).expect("there is room");
+    words.truncate(4 * records as usize);
+    words
+}

@@ -1,0 +1,172 @@
+//! The calls of Cerahupo's static library, with types for what they tell.
+//!
+//! Nothing is refused here. Each slice is handed on whatever it holds, and what the call told is returned.
+//! "Document 01" is the office's scope paper; a signal set is a 16-bit number, signal S its bit S.
+//!
+//! ```
+//! let book = b"p sum 0\nr 0 40\nr 1 30\nr 2 30\nc 50 < p0\n";
+//! let mut words = [0; 64];
+//! let records = cerahupo::compile(book, 0, &mut words)?;
+//! let listing = &words[..4 * records as usize];
+//! assert_eq!(cerahupo::read(listing, 3), cerahupo::decide(book, 0, 3));
+//! # Ok::<(), cerahupo::Refusal>(())
+//! ```
+
+pub mod raw;
+
+use raw::Told;
+use std::fmt;
+
+/// A refusal by document 01's table: its number, 1 to 10, and the line or record beside it, 0 where there is none.
+#[derive(Clone, Copy, Debug, PartialEq, Eq)]
+pub struct Refusal {
+    pub number: u8,
+    pub value: u64,
+}
+
+/// How many policies and conditions an accepted book has.
+#[derive(Clone, Copy, Debug, PartialEq, Eq)]
+pub struct Counts {
+    pub policies: u64,
+    pub conditions: u64,
+}
+
+/// What the scores or the rod say of one signal set.
+#[derive(Clone, Copy, Debug, PartialEq, Eq)]
+pub enum Decision {
+    Yes,
+    No,
+}
+
+/// What a listing says over all signal sets; the sets named are the lowest that give yes and no.
+#[derive(Clone, Copy, Debug, PartialEq, Eq)]
+pub enum Choice {
+    Always,
+    Never,
+    Both { yes: u16, no: u16 },
+}
+
+/// One of the two listings that are compared.
+#[derive(Clone, Copy, Debug, PartialEq, Eq)]
+pub enum Listing {
+    First,
+    Second,
+}
+
+/// Whether two listings say the same of every signal set, or the lowest where they differ and which says yes there.
+#[derive(Clone, Copy, Debug, PartialEq, Eq)]
+pub enum Comparison {
+    Alike,
+    Differ { set: u16, yes: Listing },
+}
+
+/// Which listing the comparison declined, and why.
+#[derive(Clone, Copy, Debug, PartialEq, Eq)]
+pub struct Declined {
+    pub listing: Listing,
+    pub refusal: Refusal,
+}
+
+/// Checks a book.
+pub fn check(book: &[u8]) -> Result<Counts, Refusal> {
+    raw::check(book).result().map(Counts::told)
+}
+
+/// The scored decision of a book's condition, counted from 0.
+pub fn decide(book: &[u8], condition: u32, set: u16) -> Result<Decision, Refusal> {
+    raw::decide(book, condition, set).result().map(Decision::told)
+}
+
+/// Compiles a condition into the lent words and returns the number of records, four words each.
+/// Words beyond them, and on a refusal all words, are unchanged.
+pub fn compile(book: &[u8], condition: u32, words: &mut [u32]) -> Result<u64, Refusal> {
+    raw::compile(book, condition, words).result()
+}
+
+/// The rod's reading of a listing.
+pub fn read(words: &[u32], set: u16) -> Result<Decision, Refusal> {
+    raw::read(words, set).result().map(Decision::told)
+}
+
+/// The choice check of a listing.
+pub fn choice(words: &[u32]) -> Result<Choice, Refusal> {
+    raw::choice(words).result().map(Choice::told)
+}
+
+/// Compares two listings.
+pub fn compare(one: &[u32], two: &[u32]) -> Result<Comparison, Declined> {
+    let told = raw::compare(one, two);
+    match told.result() {
+        Ok(value) => Ok(Comparison::told(value)),
+        Err(refusal) => Err(Declined { listing: told.declined(), refusal }),
+    }
+}
+
+impl Told {
+    fn result(self) -> Result<u64, Refusal> {
+        match self.number() {
+            0 => Ok(self.value()),
+            number => Err(Refusal { number, value: self.value() }),
+        }
+    }
+
+    fn declined(self) -> Listing {
+        if self.second() { Listing::Second } else { Listing::First }
+    }
+}
+
+/// The signal set that stands in a result from a bit on.
+fn set_at(value: u64, bit: u32) -> u16 {
+    (value >> bit) as u16
+}
+
+impl Counts {
+    fn told(value: u64) -> Counts {
+        Counts { policies: value % 2048, conditions: value / 2048 }
+    }
+}
+
+impl Decision {
+    fn told(value: u64) -> Decision {
+        if value == 1 { Decision::Yes } else { Decision::No }
+    }
+}
+
+impl Choice {
+    fn told(value: u64) -> Choice {
+        match value % 4 {
+            0 => Choice::Always,
+            1 => Choice::Never,
+            _ => Choice::Both { yes: set_at(value, 11), no: set_at(value, 27) },
+        }
+    }
+}
+
+impl Comparison {
+    fn told(value: u64) -> Comparison {
+        match value % 4 {
+            0 => Comparison::Alike,
+            1 => Comparison::Differ { set: set_at(value, 11), yes: Listing::Second },
+            _ => Comparison::Differ { set: set_at(value, 11), yes: Listing::First },
+        }
+    }
+}
+
+impl fmt::Display for Refusal {
+    fn fmt(&self, out: &mut fmt::Formatter) -> fmt::Result {
+        write!(out, "refused {} {}", self.number, self.value)
+    }
+}
+
+impl fmt::Display for Declined {
+    fn fmt(&self, out: &mut fmt::Formatter) -> fmt::Result {
+        let listing = match self.listing {
+            Listing::First => "first",
+            Listing::Second => "second",
+        };
+        write!(out, "{listing} listing {}", self.refusal)
+    }
+}
+
+impl std::error::Error for Refusal {}
+impl std::error::Error for Declined {}

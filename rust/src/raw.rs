@@ -1,0 +1,64 @@
+//! The C interface: each call on slices, and the number that it returns, for those who pass it on as it is.
+
+mod library {
+    unsafe extern "C" {
+        pub fn cerahupo_check(book: *const u8, bytes: usize) -> u64;
+        pub fn cerahupo_decide(book: *const u8, bytes: usize, condition: u32, set: u16) -> u64;
+        pub fn cerahupo_compile(book: *const u8, bytes: usize, condition: u32, words: *mut u32, count: usize) -> u64;
+        pub fn cerahupo_read(words: *const u32, count: usize, set: u16) -> u64;
+        pub fn cerahupo_choice(words: *const u32, count: usize) -> u64;
+        pub fn cerahupo_compare(one: *const u32, ones: usize, two: *const u32, twos: usize) -> u64;
+    }
+}
+
+/// What a call returned, N + 16 * W + 32 * V: N is the refusal or 0, W tells whether the second listing was declined,
+/// V is the result, or the line or record of the refusal.
+#[derive(Clone, Copy)]
+pub struct Told(pub u64);
+
+impl Told {
+    pub fn number(self) -> u8 {
+        (self.0 % 16) as u8
+    }
+
+    pub fn second(self) -> bool {
+        self.0 / 16 % 2 == 1
+    }
+
+    pub fn value(self) -> u64 {
+        self.0 / 32
+    }
+}
+
+// Each call below is safe because the library takes every slice whatever, reads only what it was handed, keeps no
+// pointer, and writes only inside the lent words, which nobody else can reach.
+
+pub fn check(book: &[u8]) -> Told {
+    // SAFETY: as above.
+    Told(unsafe { library::cerahupo_check(book.as_ptr(), book.len()) })
+}
+
+pub fn decide(book: &[u8], condition: u32, set: u16) -> Told {
+    // SAFETY: as above.
+    Told(unsafe { library::cerahupo_decide(book.as_ptr(), book.len(), condition, set) })
+}
+
+pub fn compile(book: &[u8], condition: u32, words: &mut [u32]) -> Told {
+    // SAFETY: as above.
+    Told(unsafe { library::cerahupo_compile(book.as_ptr(), book.len(), condition, words.as_mut_ptr(), words.len()) })
+}
+
+pub fn read(words: &[u32], set: u16) -> Told {
+    // SAFETY: as above.
+    Told(unsafe { library::cerahupo_read(words.as_ptr(), words.len(), set) })
+}
+
+pub fn choice(words: &[u32]) -> Told {
+    // SAFETY: as above.
+    Told(unsafe { library::cerahupo_choice(words.as_ptr(), words.len()) })
+}
+
+pub fn compare(one: &[u32], two: &[u32]) -> Told {
+    // SAFETY: as above.
+    Told(unsafe { library::cerahupo_compare(one.as_ptr(), one.len(), two.as_ptr(), two.len()) })
+}

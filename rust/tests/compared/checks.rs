@@ -1,0 +1,84 @@
+//! The choice check and the comparison.
+
+use crate::agreed;
+use crate::inputs::random::{Random, rounds};
+use crate::inputs::{books, listings};
+use crate::reference::{listing_of, words_of};
+use crate::tally::Tally;
+use cerahupo::{Choice, Comparison, Declined, Listing};
+
+/// The listing of a random book's condition, if that is short enough to walk all sets often.
+fn compiled(random: &mut Random) -> Vec<u32> {
+    loop {
+        let book = books::valid(random);
+        match listing_of(&book, 0) {
+            Ok(words) if words.len() <= 400 => return words,
+            _ => continue,
+        }
+    }
+}
+
+fn listing(random: &mut Random) -> Vec<u32> {
+    match random.below(4) {
+        0 => compiled(random),
+        1 => listings::sound(2, random),
+        2 => listings::sound(12, random),
+        _ => listings::damaged(12, random),
+    }
+}
+
+#[test]
+fn choice() {
+    let mut random = Random::of("choice");
+    let mut tally = Tally::new("choice");
+    for _ in 0..rounds(1_200) {
+        tally.count_answer(agreed::choice(&listing(&mut random)), |choice| match choice {
+            Choice::Always => "always",
+            Choice::Never => "never",
+            Choice::Both { yes: 0, .. } => "both, no later",
+            Choice::Both { .. } => "both, yes later",
+        });
+    }
+    tally.finish(&["always", "never", "both, no later", "both, yes later", "refusal 9", "refusal 10"]);
+}
+
+fn pair(random: &mut Random) -> (Vec<u32>, Vec<u32>) {
+    let nodes = listings::nodes(10, random);
+    let same = listings::alike(&nodes, random);
+    match random.below(8) {
+        0..2 => (words_of(&nodes), words_of(&same)),
+        2..4 => (words_of(&nodes), words_of(&listings::nearly_alike(same, random))),
+        4..6 => (words_of(&listings::nearly_alike(same, random)), words_of(&nodes)),
+        6 => (compiled(random), compiled(random)),
+        _ => (listing(random), listings::damaged(12, random)),
+    }
+}
+
+#[test]
+fn compare() {
+    let mut random = Random::of("compare");
+    let mut tally = Tally::new("compare");
+    for _ in 0..rounds(1_000) {
+        let (one, two) = pair(&mut random);
+        tally.count(match agreed::compare(&one, &two) {
+            Ok(Comparison::Alike) => "alike",
+            Ok(Comparison::Differ { yes: Listing::First, .. }) => "first says yes",
+            Ok(Comparison::Differ { yes: Listing::Second, .. }) => "second says yes",
+            Err(Declined { listing: Listing::First, .. }) => "first declined",
+            Err(Declined { listing: Listing::Second, .. }) => "second declined",
+        });
+    }
+    tally.finish(&["alike", "first says yes", "second says yes", "first declined", "second declined"]);
+}
+
+/// Listings that give one answer up to the last set.
+#[test]
+fn answers_of_the_last_set() {
+    let only_last = |kind| [kind, 0xffff, 2, 0, 4, 0xffff, 0, 0];
+    let never = [16, 0xffff, 0, 0];
+    assert_eq!(agreed::choice(&only_last(16)), Ok(Choice::Both { yes: 0xffff, no: 0 }));
+    assert_eq!(agreed::choice(&only_last(19)), Ok(Choice::Both { yes: 0, no: 0xffff }));
+    let differ = |yes| Ok(Comparison::Differ { set: 0xffff, yes });
+    assert_eq!(agreed::compare(&only_last(16), &never), differ(Listing::First));
+    assert_eq!(agreed::compare(&never, &only_last(16)), differ(Listing::Second));
+}

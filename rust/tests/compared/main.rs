@@ -1,0 +1,16 @@
+//! Every call on many inputs, compared with document 01 written once more in Rust.
+//!
+//! CERAHUPO_SEED repeats a run, CERAHUPO_ROUNDS multiplies the number of inputs.
+
+mod agreed;
+mod books;
+mod checks;
+mod compiling;
+mod inputs;
+mod listings;
+mod reference;
+mod tally;
+mod worked;
+
+#[path = "../../benches/ratios/optimised/mod.rs"]
+mod optimised;

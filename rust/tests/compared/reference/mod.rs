@@ -1,0 +1,83 @@
+//! Document 01 once more, written from the paper alone, as plainly as can be: every set is tried, nothing is saved.
+//! The functions have the signatures of the calls.
+
+mod book;
+mod listing;
+mod score;
+mod translation;
+
+use cerahupo::{Choice, Comparison, Counts, Decision, Declined, Listing, Refusal};
+
+pub use translation::{Node, words_of};
+
+fn refused<T>(number: u8, value: usize) -> Result<T, Refusal> {
+    Err(Refusal { number, value: value as u64 })
+}
+
+fn decision(yes: bool) -> Decision {
+    if yes { Decision::Yes } else { Decision::No }
+}
+
+fn condition_of(book: &book::Book, number: u32) -> Result<&book::Condition, Refusal> {
+    match book.conditions.get(number as usize) {
+        Some(condition) => Ok(condition),
+        None => refused(7, 0),
+    }
+}
+
+pub fn check(bytes: &[u8]) -> Result<Counts, Refusal> {
+    let book = book::read(bytes)?;
+    Ok(Counts { policies: book.policies.len() as u64, conditions: book.conditions.len() as u64 })
+}
+
+pub fn decide(bytes: &[u8], condition: u32, set: u16) -> Result<Decision, Refusal> {
+    let book = book::read(bytes)?;
+    Ok(decision(score::meets(&book, condition_of(&book, condition)?, set)))
+}
+
+pub fn compile(bytes: &[u8], condition: u32, lent: &mut [u32]) -> Result<u64, Refusal> {
+    let words = listing_of(bytes, condition)?;
+    if words.len() > lent.len() {
+        return refused(8, 0);
+    }
+    lent[..words.len()].copy_from_slice(&words);
+    Ok(words.len() as u64 / 4)
+}
+
+/// The listing of a condition, as long as it is.
+pub fn listing_of(bytes: &[u8], condition: u32) -> Result<Vec<u32>, Refusal> {
+    let book = book::read(bytes)?;
+    Ok(translation::listing(&book, condition_of(&book, condition)?))
+}
+
+pub fn read(words: &[u32], set: u16) -> Result<Decision, Refusal> {
+    Ok(decision(listing::take(words)?.says(set)))
+}
+
+/// The rod's answer on each of the 65,536 sets.
+pub fn read_all(words: &[u32]) -> Result<Vec<bool>, Refusal> {
+    let tree = listing::take(words)?;
+    Ok((0..=u16::MAX).map(|set| tree.says(set)).collect())
+}
+
+pub fn choice(words: &[u32]) -> Result<Choice, Refusal> {
+    let answers = read_all(words)?;
+    let lowest = |wanted: bool| answers.iter().position(|&yes| yes == wanted).map(|set| set as u16);
+    Ok(match (lowest(true), lowest(false)) {
+        (Some(yes), Some(no)) => Choice::Both { yes, no },
+        (Some(_), None) => Choice::Always,
+        (None, _) => Choice::Never,
+    })
+}
+
+pub fn compare(one: &[u32], two: &[u32]) -> Result<Comparison, Declined> {
+    let first = read_all(one).map_err(|refusal| Declined { listing: Listing::First, refusal })?;
+    let second = read_all(two).map_err(|refusal| Declined { listing: Listing::Second, refusal })?;
+    Ok(match (0..first.len()).find(|&set| first[set] != second[set]) {
+        None => Comparison::Alike,
+        Some(set) => {
+            let yes = if first[set] { Listing::First } else { Listing::Second };
+            Comparison::Differ { set: set as u16, yes }
+        }
+    })
+}
