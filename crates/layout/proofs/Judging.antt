@@ -87,17 +87,22 @@ module _ (ws : List ℕ) where
   unfolding verdict lengthSound recordsFrom
   whole d e = rw (ne-eqb (length ws) 0 d, eq-eqb (length ws % 4) 0 e) refl
 
+-- what stands above the next record, where a step leads there
+pub step-made : (n : ℕ) (so next : SoFar) (k : Kind) (r : Record) (after : List Kind) → some next ≡ stepOf n so k r after → next ≡ soFarAfter so k r
+unfolding stepOf
+step-made n so next k r after e = go (keepsLayout n so k r after) e
+  where
+    go : (b : Bool) → some next ≡ cond b (some (soFarAfter so k r)) none → next ≡ soFarAfter so k r
+    go true e = cc
+    go false e = let z : _≡_ {A = ℕ} 0 1 = cc in absurd (omega arith)
+
 -- there are never more values than policies
 pub step-values : (ws : List ℕ) (i : ℕ) (so next : SoFar) → so .values ≤ so .policies → some next ≡ stepAt ws i so → next .values ≤ next .policies
-unfolding stepAt stepOf soFarAfter
-step-values ws i so next h e = go (keepsLayout (i + 1) so (kindOf (recordAt ws i .kind)) (recordAt ws i) (kinds (recordsFrom ws (i + 1)))) (kindOf (recordAt ws i .kind)) e
+unfolding stepAt soFarAfter
+step-values ws i so next h e = subst (λ (x : SoFar). x .values ≤ x .policies) (sym (step-made _ _ _ _ _ _ e)) (few (kindOf (recordAt ws i .kind)))
   where
     few : (k : Kind) → (soFarAfter so k (recordAt ws i)) .values ≤ (soFarAfter so k (recordAt ws i)) .policies
     few line = h
     few (policy q t) = omega arith
     few (join j) = omega arith
     few unknown = h
-
-    go : (b : Bool) (k : Kind) → some next ≡ cond b (some (soFarAfter so k (recordAt ws i))) none → next .values ≤ next .policies
-    go true k e = let same : next ≡ soFarAfter so k (recordAt ws i) = cc in subst (λ (x : SoFar). x .values ≤ x .policies) (sym same) (few k)
-    go false k e = let z : _≡_ {A = ℕ} 0 1 = cc in absurd (omega arith)

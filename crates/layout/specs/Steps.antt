@@ -1,15 +1,16 @@
 -- What the code's own values mean, and one step of the judgement as the code takes it.
-use Prim.Native.Nat.{ℕ, _+_, _*_, _-_}
+use Prim.Native.Nat.{ℕ, _+_, _*_, _-_, _<_}
 use mathlib.Core.Bool.{Bool, true, false, cond, _&&_}
 use mathlib.Core.List.{List}
 use mathlib.Core.Option.{Option, none, some}
+use mathlib.Core.Path.{_≡_}
 use lib.Dec.{eqb, leb}
 use lib.ListN.{getD, drop}
 use Rattle.signals.specs.Sets.{isSet}
 use Rattle.layout.specs.Records
 use Rattle.layout.specs.Records.{records, kindOf, kinds}
 use Rattle.layout.specs.Judgement
-use Rattle.layout.specs.Judgement.{insidePolicy, keepsLayout, soFarAfter}
+use Rattle.layout.specs.Judgement.{nextNode, insidePolicy, keepsLayout, soFarAfter, judged}
 use Rattle.layout.specs.declared.Kind.{Kind}
 use Rattle.layout.specs.declared.Kind.the-variants.{Line, And, Or, Policy, Unknown}
 use Rattle.layout.specs.declared.Record.{Record}
@@ -72,3 +73,13 @@ stepOf n so k r after = cond (keepsLayout n so k r after) (some (soFarAfter so k
 -- one step over the record at index i
 unfoldable pub stepAt : List ℕ → ℕ → Judgement.SoFar → Option Judgement.SoFar
 stepAt ws i so = stepOf (i + 1) so (kindOf (getD ws (i * 4) 0)) (recordAt ws i) (kinds (recordsFrom ws (i + 1)))
+
+-- the record at index i is a line, and a step over it leaves what stands above as it is, where that is a policy of this mask
+abbrev pub PassedOver : List ℕ → ℕ → ℕ → Type 0
+PassedOver ws i mask = (getD ws (i * 4) 0 ≡ 4) × ((so : Judgement.SoFar) → so .policyMask ≡ some mask → some so ≡ stepAt ws i so)
+
+-- the records between index i and index `end` are lines that change neither the next node nor, after a step over index i, the judgement
+pub record AfterLines (ws : List ℕ) (i end : ℕ) : Type 0 where
+  pub later : i < end
+  pub sameNode : nextNode (end + 1) (kinds (recordsFrom ws end)) ≡ nextNode (i + 1 + 1) (kinds (recordsFrom ws (i + 1)))
+  pub sameJudged : (so next : Judgement.SoFar) → some next ≡ stepAt ws i so → judged (i + 1) next (recordsFrom ws (i + 1)) ≡ judged end next (recordsFrom ws end)

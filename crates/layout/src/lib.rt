@@ -1,12 +1,13 @@
 // The listing part: what the words of a listing must be, and which record breaks the layout first.
 // `check` is for every caller; the other public items are for the crates above.
+ghost use mathlib.Core.Bool.{true};
 ghost use mathlib.Core.Path.{_≡_};
 ghost use Prim.Native.Nat.{_+_, _*_, _≤_, _<_};
 ghost use lib.ListN.{length};
 ghost use Rattle.layout.specs.Records.{kindOf, kinds};
 ghost use Rattle.layout.specs.Judgement.{ifAny, ifLine, nextNode, insidePolicy, verdict};
 ghost use Rattle.layout.specs.Meaning.{verdictMeaning};
-ghost use Rattle.layout.specs.Steps.{kindMeaning, recordMeaning, recordAt, recordsFrom, soFarMeaning, stepMeaning, policyStep, lineStep, joinStep, stepAt};
+ghost use Rattle.layout.specs.Steps.{kindMeaning, recordMeaning, recordAt, recordsFrom, soFarMeaning, stepMeaning, policyStep, lineStep, joinStep, stepAt, PassedOver, AfterLines};
 
 // What a record is by its first word.
 pub enum Kind {
@@ -203,9 +204,53 @@ fn next_node(words: &[u32], from: usize) -> usize
     0
 }
 
-// The judgement of the record at index i.
-fn step_at(words: &[u32], i: usize, so: SoFar) -> Step
-    requires { ⌜ (i * 4 + 4 ≤ length (now words)) × (so .values ≤ so .policies) ⌝ }
+// The record at index i is a sound line of a policy of this mask.
+fn is_sound_line(words: &[u32], i: usize, mask: u16) -> bool
+    requires { ⌜ i * 4 + 4 ≤ length (now words) ⌝ }
+    ensures { λ r. ⌜ (r ≡ true → PassedOver (now (words .entry)) i mask) ⌝ }
+{
+    let r = record_at(words, i);
+    if r.kind != 4 {
+        return false;
+    }
+    if r.lines != 0 {
+        return false;
+    }
+    let line = if_line(words, i + 1);
+    if r.next as usize != line {
+        return false;
+    }
+    signals::lies_inside(r.mask, mask)
+}
+
+// The index of the first record after the one at index `node` that is no sound line of it.
+// Most records are lines: here each is judged, and found to be no node, in one reading.
+fn after_lines(words: &[u32], node: usize) -> usize
+    requires { ⌜ node * 4 + 4 ≤ length (now words) ⌝ }
+    ensures { λ r. ⌜ AfterLines (now (words .entry)) node r ⌝ }
+{
+    let r = record_at(words, node);
+    let mut i = node + 1;
+    // Only a policy has lines, and only below a mask of 16 bits are they sound.
+    if r.kind < 16 {
+        return i;
+    }
+    if r.mask > 65535 {
+        return i;
+    }
+    let mask = r.mask as u16;
+    while i < words.len() / 4 {
+        if !is_sound_line(words, i, mask) {
+            return i;
+        }
+        i += 1;
+    }
+    i
+}
+
+// The judgement of the record at index i; `end` is where its sound lines end.
+fn step_at(words: &[u32], i: usize, so: SoFar, end: usize) -> Step
+    requires { ⌜ (i * 4 + 4 ≤ length (now words)) × (so .values ≤ so .policies) × AfterLines (now words) i end ⌝ }
     ensures { λ s. ⌜ stepMeaning s ≡ stepAt (now (words .entry)) i (soFarMeaning so) ⌝ }
 {
     let r = record_at(words, i);
@@ -217,7 +262,7 @@ fn step_at(words: &[u32], i: usize, so: SoFar) -> Step
         Kind::Policy {
             quiet: _,
             turned: _,
-        } => { policy_step(r, so, if_line(words, i + 1), next_node(words, i + 1)) }
+        } => { policy_step(r, so, if_line(words, i + 1), next_node(words, end)) }
         Kind::Unknown => Step::Breaks,
     }
 }
@@ -254,11 +299,12 @@ pub fn check(words: &[u32]) -> Verdict
     };
     let mut i: usize = 0;
     while i < len / 4 {
-        let Step::Next(next) = step_at(words, i, so) else {
+        let end = after_lines(words, i);
+        let Step::Next(next) = step_at(words, i, so, end) else {
             return Verdict::Declined(Fault::Record(i + 1));
         };
         so = next;
-        i += 1;
+        i = end;
     }
     if so.values == 1 {
         Verdict::Sound

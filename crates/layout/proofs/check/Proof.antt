@@ -26,6 +26,9 @@ loop-holds : tie.Need-loop-holds Inv-loop μ-loop
 unfolding noRecord
 loop-holds c = (omega arith, whole _ (omega arith) (omega arith))
 
+after-lines-requires : tie.Need-after-lines-requires Inv-loop μ-loop
+after-lines-requires c κs = search needs
+
 step-at-requires : tie.Need-step-at-requires Inv-loop μ-loop
 step-at-requires c κs = search needs
 
@@ -35,27 +38,24 @@ enum-known-next c = search needs
 enum-told : tie.Need-enum-told Inv-loop μ-loop
 enum-told c = search needs
 
-add-t13 : tie.Need-add-t13 Inv-loop μ-loop
-add-t13 c = search needs
+add-t14 : tie.Need-add-t14 Inv-loop μ-loop
+add-t14 c = search needs
 
 returns-3 : tie.Need-returns-3 Inv-loop μ-loop
 returns-3 c =
     let a = c .before .before in
-    let l = a .before .before in
+    let l = a .before .before .before in
     sym (judged-stop _ _ _ (omega arith) (sym (ap stepMeaning (c .enum-told .given .1)) ∙ a .step-at .ensures)) ∙ l .loop .inv .1
 
-add-i : tie.Need-add-i Inv-loop μ-loop
-add-i c = search needs
-
 loop-less : tie.Need-loop-less Inv-loop μ-loop
-loop-less c = search needs
+loop-less c = omega (arith, c .before .before .before .before .after-lines .ensures .later)
 
 loop-again : tie.Need-loop-again Inv-loop μ-loop
 loop-again c =
     let a = c .before .before .before in
-    let l = a .before .before in
+    let l = a .before .before .before in
     let e = sym (ap stepMeaning (c .before .next .given .1)) ∙ a .step-at .ensures in
-    (step-values _ _ _ _ (l .loop .inv .0) e, sym (judged-on _ _ _ (omega arith) _ e) ∙ l .loop .inv .1)
+    (step-values _ _ _ _ (l .loop .inv .0) e, sym (judged-on _ _ _ (omega arith) _ e ∙ a .before .after-lines .ensures .sameJudged _ _ e) ∙ l .loop .inv .1)
 
 returns-4 : tie.Need-returns-4 Inv-loop μ-loop
 returns-4 c =
@@ -76,12 +76,12 @@ check-spec =
     returns
     returns-2
     loop-holds
+    after-lines-requires
     step-at-requires
     enum-known-next
     enum-told
-    add-t13
+    add-t14
     returns-3
-    add-i
     loop-less
     loop-again
     returns-4

@@ -1,5 +1,5 @@
 -- `layout::step_at`: the parts together are a step of the judged.
-use mathlib.Core.Path.{refl, ap}
+use mathlib.Core.Path.{refl, ap, _∙_}
 use Rattle.layout.specs.Records.{and, or}
 use Rattle.layout.specs.Steps.{kindMeaning}
 use Rattle.layout.proofs.Judging.{step-line, step-join, step-policy, step-unknown}
@@ -58,9 +58,6 @@ add-if-line-2 c = search needs
 if-line-requires-2 : tie.Need-if-line-requires-2
 if-line-requires-2 c κs = search needs
 
-add-next-node : tie.Need-add-next-node
-add-next-node c = search needs
-
 next-node-requires : tie.Need-next-node-requires
 next-node-requires c κs = search needs
 
@@ -93,7 +90,7 @@ returns-4 c =
     let e = c .before .before .before in
     let k = e .before .before in
     step-policy _ _ _ _ _ _ (k .before .record-at .ensures) (k .kind-of .ensures) _ _ (ap kindMeaning (e .enum-told4 .given .1)) _ _
-    (c .before .before .if-line2 .ensures) (c .before .next-node .ensures) (c .policy-step .ensures)
+    (c .before .before .if-line2 .ensures) (c .before .next-node .ensures ∙ k .before .before .before .pre .2 .sameNode) (c .policy-step .ensures)
 
 returns-5 : tie.Need-returns-5
 returns-5 c =
@@ -121,7 +118,6 @@ step-at-spec =
     enum-told-4
     add-if-line-2
     if-line-requires-2
-    add-next-node
     next-node-requires
     policy-step-requires
     enum-told-5
