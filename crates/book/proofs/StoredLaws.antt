@@ -10,9 +10,9 @@ use Rattle.answers.proofs.Results.{no-refusal, result-is}
 use Rattle.arith.specs.Lists.{padded, Each}
 use Rattle.arith.proofs.Padding.{padded-more, padded-set, padded-get}
 use Rattle.peal.specs.Policies.{Rule, Policy, Condition, Book, policyAt, emptyPolicy}
-use Rattle.book.specs.Acceptance.{lastPolicy, withRule, withPolicies, withLast, withCondition}
+use Rattle.book.specs.Acceptance.{withRule, withPolicies, withLast, withCondition}
 use Rattle.book.specs.Books.{conditionAt}
-use Rattle.book.specs.Stored.{storedPolicy, storedCondition, noPolicy, noCondition, storedBook, LastHasRoom}
+use Rattle.book.specs.Stored.{storedPolicy, storedCondition, noPolicy, noCondition, storedBook}
 use Rattle.book.specs.declared.stored.Policy.{Policy as StoredPolicy}
 use Rattle.book.specs.declared.stored.Condition.{Condition as StoredCondition}
 use Rattle.book.specs.declared.stored.Book.{Book as StoredBook}
@@ -25,7 +25,7 @@ mapped-more f n z xs x h =
     ∙ padded-more n z (map f xs) (f x) (omega (arith, length-map xs f))
     ∙ ap (padded n z) (sym (map-append f xs (x ∷ [])))
 
-more-length : {A : Type 0} (xs : List A) (x : A) → length xs + 1 ≡ length (xs ++ (x ∷ []))
+pub more-length : {A : Type 0} (xs : List A) (x : A) → length xs + 1 ≡ length (xs ++ (x ∷ []))
 more-length xs x = sym (length-append xs (x ∷ []))
 
 pub map-set : {A B : Type 0} (f : A → B) (l : List A) (i : ℕ) (x : A) → set (map f l) i (f x) ≡ map f (set l i x)
@@ -151,12 +151,6 @@ module _ (b : StoredBook) (k : Book) (e : b ≡ storedBook k) where
       go (c ∷ cs) ℕ.zero l = (c, condition-first c cs, refl)
       go (c ∷ cs) (ℕ.suc n) l = let f = go cs n (omega arith) in (f .0, condition-next c cs n ∙ f .1, f .2)
 
--- the last policy
-pub stored-last : (b : StoredBook) (k : Book) (d : StoredPolicy) → b ≡ storedBook k → 0 < b .opened → getD (b .policies) (b .opened - 1) d ≡ storedPolicy (lastPolicy k)
-unfolding lastPolicy
-stored-last b k d e h =
-    policy-at b k e (b .opened - 1) d (omega arith) ∙ ap (λ (n : ℕ). storedPolicy (policyAt (k .policies) (n - 1))) (opened-is b k e)
-
 -- the last policy changed
 pub stored-change : (b : StoredBook) (k : Book) (p : Policy) → b ≡ storedBook k → 0 < b .opened
     → _≡_ {A = StoredBook}
@@ -174,14 +168,3 @@ stored-change b k p e h =
       policies = (padded-set 16 noPolicy (map storedPolicy (k .policies)) n (storedPolicy p) within ∙ ap (padded 16 noPolicy) (map-set storedPolicy (k .policies) n p)) i;
       conditions = padded 8 noCondition (map storedCondition (k .conditions));
     })
-
--- what the code asks of a book whose last policy has room
-module _ (b : StoredBook) (h : LastHasRoom b) where
-  pub room-opened : b .opened ≡ length (h .book .policies)
-  room-opened = opened-is b (h .book) (h .held)
-
-  pub room-count : (d : StoredPolicy) → getD (b .policies) (b .opened - 1) d .count < 16
-  unfolding storedPolicy
-  room-count d =
-      let last = stored-last b (h .book) d (h .held) (omega (arith, room-opened, h .some)) in
-      omega (arith, ap (λ (x : StoredPolicy). x .count) last, h .room)

@@ -2,15 +2,17 @@
 use Prim.Native.Nat.{ℕ, suc, _+_, _-_, _≤_, _<_}
 use mathlib.Core.Bool.{Bool, true, false, cond, _&&_}
 use mathlib.Core.List.{List, [], _∷_}
+use mathlib.Core.Logic.{⊎-elim}
 use mathlib.Core.Path.{_≡_, refl, ap, _∙_}
+use native.Mathlib.Nat.{eq-or-lt-of-le}
 use native.Mathlib.Numerals.{add-one}
 use native.Mathlib.Omega.{arith}
 use lib.Dec.{eqb, ltb, leb·suc-suc}
 use lib.ListN.{length, getD, take, drop, drop-of-length-le, length-drop, length-take}
-use lib.Seq.{drop-cons, drop-drop, take-all, length-take-le}
+use lib.Seq.{drop-cons, drop-drop, take-all}
 use borrow.Author.Tests.{eq-eqb, ne-eqb, lt-ltb, le-ltb}
 use Rattle.arith.proofs.Tests.{clash, and-right}
-use Rattle.book.specs.Text.{longer, parted, asLines, textLines, fields, is, begins}
+use Rattle.book.specs.Text.{Line, longer, parted, asLines, textLines, fields, is, begins}
 use Rattle.book.specs.Spelling.{upTo}
 
 -- ---- the next x, from a place on
@@ -67,9 +69,6 @@ module _ (x : ℕ) (s : List ℕ) (at e : ℕ) (h : at ≤ length s) (q : e ≡ 
   pub end-within : e ≤ length s
   end-within = omega (arith, upTo-le x (drop at s), length-drop at s)
 
-  pub piece-length : length (take (e - at) (drop at s)) ≡ e - at
-  piece-length = length-take-le (e - at) (drop at s) (omega (arith, end-within, length-drop at s))
-
   pub parted-at : e < length s → parted x (drop at s) ≡ take (e - at) (drop at s) ∷ parted x (drop (e + 1) s)
   parted-at l =
       let u : upTo x (drop at s) ≡ e - at = omega arith in
@@ -95,19 +94,27 @@ line-alone : (s : List ℕ) (i : ℕ) → i < length s → asLines (drop i s ∷
 unfolding asLines
 line-alone s i h = rw (drop-cons s i 0 h)
 
--- the line at a place: the next end is found at e, or the book's end is
-module _ (s : List ℕ) (at e : ℕ) (h : at < length s) (q : e ≡ at + upTo 10 (drop at s)) where
-  pub ended-line : e < length s
-      → textLines (drop at s) ≡ record { text = take (e - at) (drop at s); ended = true } ∷ textLines (drop (e + 1) s)
-  unfolding textLines
-  ended-line l = ap asLines (parted-at 10 s at e (omega arith) q l) ∙ line-before (take (e - at) (drop at s)) (drop (e + 1) s)
-
-  pub open-line : length s ≤ e → textLines (drop at s) ≡ record { text = drop at s; ended = false } ∷ []
-  unfolding textLines
-  open-line l = ap asLines (parted-at-last 10 s at e (omega arith) q l) ∙ line-alone s at h
-
 pub no-line-at : (s : List ℕ) (at : ℕ) → length s ≤ at → textLines (drop at s) ≡ []
 no-line-at s at h = rw (drop-of-length-le s h) no-line
+
+-- the line from a place to e, which is before the book's end where the line has an end
+abbrev pub lineTo : List ℕ → ℕ → ℕ → Line
+lineTo s at e = record { text = take (e - at) (drop at s); ended = ltb e (length s) }
+
+-- the line at a place: the next end is found at e, or the book's end is
+module _ (s : List ℕ) (at e : ℕ) (h : at < length s) (q : e ≡ at + upTo 10 (drop at s)) where
+  ended-line : e < length s → textLines (drop at s) ≡ lineTo s at e ∷ textLines (drop (e + 1) s)
+  unfolding textLines
+  ended-line l = rw (lt-ltb e (length s) l) (ap asLines (parted-at 10 s at e (omega arith) q l) ∙ line-before (take (e - at) (drop at s)) (drop (e + 1) s))
+
+  open-line : e ≡ length s → textLines (drop at s) ≡ lineTo s at e ∷ textLines (drop (e + 1) s)
+  unfolding textLines
+  open-line l =
+      rw (le-ltb e (length s) (omega arith), take-all (e - at) (drop at s) (omega (arith, length-drop at s)), no-line-at s (e + 1) (omega arith))
+      (ap asLines (parted-at-last 10 s at e (omega arith) q (omega arith)) ∙ line-alone s at h)
+
+  pub line-at : textLines (drop at s) ≡ lineTo s at e ∷ textLines (drop (e + 1) s)
+  line-at = ⊎-elim open-line ended-line (eq-or-lt-of-le (end-within 10 s at e (omega arith) q))
 
 -- ---- fields
 

@@ -1,9 +1,8 @@
 -- The book as the code keeps it. Cells beyond the counts are zeros.
-use Prim.Native.Nat.{_≤_, _<_}
+use Prim.Native.Nat.{_-_}
 use mathlib.Core.List.{map}
 use lib.IntN.{pos}
-use mathlib.Core.Path.{_≡_}
-use lib.ListN.{length, replicate}
+use lib.ListN.{length, getD, replicate}
 use Rattle.arith.specs.Lists.{padded}
 use Rattle.peal.specs.Policies.{Rule, Policy, Condition, Book, emptyPolicy}
 use Rattle.peal.specs.declared.Sense.the-variants.{Above}
@@ -52,14 +51,17 @@ storedBook b =
       conditions = padded 8 noCondition (map storedCondition (b .conditions));
     }
 
--- the book has a last policy, with fewer than 16 rules
-pub record LastHasRoom (b : StoredBook) : Type 0 where
-  pub book : Book
-  pub held : b ≡ storedBook book
-  pub some : 0 < length (book .policies)
-  pub atMost : length (book .policies) ≤ 16
-  pub room : length (lastPolicy book .rules) < 16
+-- the last condition; an empty cell where there is none
+unfoldable pub lastCondition : Book → StoredCondition
+lastCondition b = getD (map storedCondition (b .conditions)) (length (b .conditions) - 1) noCondition
 
--- the book so far
+-- what the lines so far leave for the next one
 unfoldable pub storedSoFar : BookSoFar → StoredSoFar
-storedSoFar so = record { inside = so .inRules; book = storedBook (so .book) }
+storedSoFar so =
+    record {
+      inside = so .inRules;
+      opened = length (so .book .policies);
+      asked = length (so .book .conditions);
+      policy = storedPolicy (lastPolicy (so .book));
+      condition = lastCondition (so .book);
+    }

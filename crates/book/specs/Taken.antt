@@ -1,7 +1,6 @@
 -- What taking a line into the book means, and what every book so far keeps to.
 use Prim.Native.Nat.{ℕ, _<_}
 use mathlib.Core.Bool.{Bool, true}
-use mathlib.Core.List.{List}
 use mathlib.Core.Option.{Option}
 use mathlib.Core.Path.{_≡_}
 use lib.IntN.{ℤ}
@@ -11,9 +10,10 @@ use Rattle.peal.specs.Policies.{Expression}
 use Rattle.peal.specs.declared.Operator.{Operator}
 use Rattle.peal.specs.declared.Sense.{Sense}
 use Rattle.arith.specs.Lists.{padded}
-use Rattle.book.specs.Forms.{policy, rule, condition, form}
+use Rattle.book.specs.Text.{Line}
+use Rattle.book.specs.Forms.{policy, rule, condition}
 use Rattle.book.specs.Acceptance.{BookSoFar, noLine, defaultOf, defaultInRange, accept}
-use Rattle.book.specs.Books.{acceptForm}
+use Rattle.book.specs.Books.{readLine}
 use Rattle.book.specs.Ranges.{BookInRange}
 use Rattle.book.specs.Codes.{codesOf}
 use Rattle.book.specs.Stored.{storedSoFar}
@@ -33,7 +33,7 @@ abbrev pub TakenAs : ℕ → Answer BookSoFar → Taken → Type 0
 TakenAs n (result so) t = (t .verdict ≡ Fine) × (t .so ≡ storedSoFar so) × Bounded so
 TakenAs n (refused k v) t = verdictMeaning n (t .verdict) noLine ≡ refused k v
 
--- the stored book so far is that of a bounded one
+-- what the lines so far leave is that of a bounded book
 abbrev pub Kept : StoredSoFar → Type 0
 Kept s = (so : BookSoFar) × (s ≡ storedSoFar so) × Bounded so
 
@@ -50,5 +50,5 @@ ConditionTaken s c t p r =
     (n : ℕ) (so : BookSoFar) (e : Expression) → s ≡ storedSoFar so → Bounded so → p .length ≡ length (codesOf e) → p .codes ≡ padded 31 0 (codesOf e)
     → TakenAs n (accept n so (condition c t e)) r
 
-abbrev pub LineTaken : StoredSoFar → List ℕ → Taken → Type 0
-LineTaken s line t = (n : ℕ) (so : BookSoFar) → s ≡ storedSoFar so → Bounded so → TakenAs n (acceptForm n so (form line)) t
+abbrev pub LineTaken : StoredSoFar → Line → Taken → Type 0
+LineTaken s l t = (n : ℕ) (so : BookSoFar) → s ≡ storedSoFar so → Bounded so → TakenAs n (readLine n so l) t

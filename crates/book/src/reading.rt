@@ -4,8 +4,8 @@ use crate::Reason;
 use crate::Refusal;
 use crate::acceptance::Verdict;
 use crate::stored::Book;
-use crate::stored::SoFar;
 use crate::stored::empty_book;
+use crate::stored::no_line;
 use crate::taking::take_line;
 use crate::text::next_byte;
 ghost use mathlib.Core.Path.{_≡_};
@@ -66,22 +66,13 @@ pub fn read(bytes: &[u8]) -> BookRead
     if 8192 < n {
         return refused(Reason::TooLong, 0);
     }
-    let b = empty_book();
-    let mut s = SoFar {
-        inside: false,
-        book: b,
-    };
+    let mut b = empty_book();
+    let mut s = no_line();
     let mut at = 0;
     let mut line = 1;
     while at < n {
         let end = next_byte(bytes, at, 10);
-        if 128 < end - at {
-            return refused(Reason::TooLong, line);
-        }
-        if end == n {
-            return refused(Reason::NoForm, line);
-        }
-        let t = take_line(s, &bytes[at..end]);
+        let t = take_line(s, &bytes[at..end], end < n);
         let v = t.verdict;
         let Verdict::Fine = v else {
             return passed_up(v, line);
@@ -89,8 +80,18 @@ pub fn read(bytes: &[u8]) -> BookRead
         s = t.so;
         at = end + 1;
         line += 1;
+        // A `p` or an `r` leaves the last policy to be stored, a `c` the last condition.
+        if s.inside {
+            let p = s.policy;
+            b.policies[s.opened - 1] = p;
+            b.opened = s.opened;
+        } else {
+            let c = s.condition;
+            b.conditions[s.asked - 1] = c;
+            b.asked = s.asked;
+        }
     }
-    accepted(s.book)
+    accepted(b)
 }
 
 pub fn check(bytes: &[u8]) -> Checked

@@ -1,11 +1,15 @@
 // The read book, by value: policies and conditions in book order. Cells beyond the counts are zeros.
 // For this crate only: no other can name these functions, and each call is proved to meet its condition.
-ghost use mathlib.Core.List.{[], _∷_, _++_};
+ghost use mathlib.Core.List.{[]};
+ghost use mathlib.Core.Option.{some};
 ghost use mathlib.Core.Path.{_≡_};
-ghost use Prim.Native.Nat.{_+_, _<_};
-ghost use Rattle.peal.specs.Policies.{Policy as PealPolicy, Condition as PealCondition, Book as PealBook};
-ghost use Rattle.book.specs.Acceptance.{emptyBook, lastPolicy, withRule, withPolicies, withLast, withCondition};
-ghost use Rattle.book.specs.Stored.{storedPolicy, storedCondition, storedBook, LastHasRoom};
+ghost use Prim.Native.Nat.{_<_};
+ghost use lib.ListN.{length};
+ghost use Rattle.peal.specs.Policies.{Policy as PealPolicy, Condition as PealCondition};
+ghost use Rattle.book.specs.Forms.{policy, rule, condition};
+ghost use Rattle.book.specs.Acceptance.{BookSoFar, noLine, emptyBook, withRule};
+ghost use Rattle.book.specs.Stored.{storedPolicy, storedCondition, noCondition, storedBook, storedSoFar};
+ghost use Rattle.book.specs.Judged.{after};
 
 // A policy: its first `count` signals and scores are its rules.
 pub struct Policy {
@@ -33,10 +37,14 @@ pub struct Book {
     pub conditions: [Condition; 8],
 }
 
-// The book so far, and whether the line above is a `p` or an `r`.
+// What the lines so far leave for the next one: whether the line above is a `p` or an `r`, the counts, and the last policy
+// and condition. The book itself is too large to be copied for each line.
 pub struct SoFar {
     pub inside: bool,
-    pub book: Book,
+    pub opened: usize,
+    pub asked: usize,
+    pub policy: Policy,
+    pub condition: Condition,
 }
 
 // A policy with no rules.
@@ -66,39 +74,66 @@ pub fn with_rule(mut p: Policy, signal: u32, score: i32) -> Policy
     p
 }
 
-// The book with a policy more, which has no rules yet.
-pub fn add_policy(mut b: Book, operator: peal::Operator, default: i32) -> Book
-    requires { ⌜ b .opened < 16 ⌝ }
-    ensures { λ r. ⌜ ((k : PealBook) → b ≡ storedBook k → r ≡ storedBook (withPolicies k (k .policies ++ (record { operator = operator; default = default; rules = [] } ∷ [])))) ⌝ }
+// A policy more, which has no rules yet.
+pub fn add_policy(mut s: SoFar, operator: peal::Operator, default: i32) -> SoFar
+    requires { ⌜ s .opened < 16 ⌝ }
+    ensures { λ r. ⌜ ((so : BookSoFar) → s ≡ storedSoFar so → r ≡ storedSoFar (after so (policy operator (some default)))) ⌝ }
 {
     let p = new_policy(operator, default);
-    let n = b.opened;
-    b.policies[n] = p;
-    b.opened = n + 1;
-    b
+    s.inside = true;
+    s.opened += 1;
+    s.policy = p;
+    s
 }
 
-// The book with a rule more in its last policy.
-pub fn add_rule(mut b: Book, signal: u32, score: i32) -> Book
-    requires { ⌜ LastHasRoom b ⌝ }
-    ensures { λ r. ⌜ ((k : PealBook) → b ≡ storedBook k → r ≡ storedBook (withLast k (withRule (lastPolicy k) (record { signal = signal; score = score })))) ⌝ }
+// A rule more in the last policy.
+pub fn add_rule(mut s: SoFar, signal: u32, score: i32) -> SoFar
+    requires { ⌜ s .policy .count < 16 ⌝ }
+    ensures { λ r. ⌜ ((so : BookSoFar) → s ≡ storedSoFar so → 0 < length (so .book .policies) → r ≡ storedSoFar (after so (rule signal score))) ⌝ }
 {
-    let i = b.opened - 1;
-    let p = b.policies[i];
+    let p = s.policy;
     let q = with_rule(p, signal, score);
-    b.policies[i] = q;
-    b
+    s.inside = true;
+    s.policy = q;
+    s
 }
 
-// The book with a condition more.
-pub fn add_condition(mut b: Book, c: Condition) -> Book
-    requires { ⌜ b .asked < 8 ⌝ }
-    ensures { λ r. ⌜ ((k : PealBook) (d : PealCondition) → b ≡ storedBook k → c ≡ storedCondition d → r ≡ storedBook (withCondition k d)) ⌝ }
+// A condition more.
+pub fn add_condition(mut s: SoFar, c: Condition) -> SoFar
+    requires { ⌜ s .asked < 8 ⌝ }
+    ensures { λ r. ⌜ ((so : BookSoFar) (d : PealCondition) → s ≡ storedSoFar so → c ≡ storedCondition d → r ≡ storedSoFar (after so (condition (d .sense) (d .threshold) (d .expression)))) ⌝ }
 {
-    let n = b.asked;
-    b.conditions[n] = c;
-    b.asked = n + 1;
-    b
+    s.inside = false;
+    s.asked += 1;
+    s.condition = c;
+    s
+}
+
+fn no_condition() -> Condition
+    ensures { λ r. ⌜ r ≡ noCondition ⌝ }
+{
+    let codes = [0u32; 31];
+    Condition {
+        sense: peal::Sense::Above,
+        threshold: 0,
+        length: 0,
+        codes: codes,
+    }
+}
+
+// Before the first line.
+pub fn no_line() -> SoFar
+    ensures { λ r. ⌜ r ≡ storedSoFar noLine ⌝ }
+{
+    let p = new_policy(peal::Operator::Min, 0);
+    let c = no_condition();
+    SoFar {
+        inside: false,
+        opened: 0,
+        asked: 0,
+        policy: p,
+        condition: c,
+    }
 }
 
 // The book with no policies and no conditions.
@@ -106,14 +141,8 @@ pub fn empty_book() -> Book
     ensures { λ r. ⌜ r ≡ storedBook emptyBook ⌝ }
 {
     let p = new_policy(peal::Operator::Min, 0);
+    let c = no_condition();
     let policies = [p; 16];
-    let codes = [0u32; 31];
-    let c = Condition {
-        sense: peal::Sense::Above,
-        threshold: 0,
-        length: 0,
-        codes: codes,
-    };
     let conditions = [c; 8];
     Book {
         opened: 0,

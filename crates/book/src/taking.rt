@@ -1,4 +1,4 @@
-// Lines taken into the book so far.
+// Lines, each tried in the order 1 to 6 and taken.
 // For this crate only: no other can name these functions, and each call is proved to meet its condition.
 use crate::Reason;
 use crate::acceptance::Verdict;
@@ -17,38 +17,35 @@ use crate::stored::add_condition;
 use crate::stored::add_policy;
 use crate::stored::add_rule;
 ghost use Prim.Native.Nat.{_≤_};
-ghost use lib.ListN.{length};
+ghost use mathlib.Core.Path.{_≡_};
+ghost use Rattle.book.specs.declared.acceptance.Verdict.the-variants.{Refused};
 ghost use Rattle.book.specs.Taken.{Kept, PolicyTaken, RuleTaken, ConditionTaken, LineTaken};
 
-// The verdict on a line, and the book so far: with the line where it is fine, and as it was where not.
+// The verdict on a line, and what stands so far: with the line where it is fine, and as it was where not.
 pub struct Taken {
     pub verdict: Verdict,
     pub so: SoFar,
 }
 
+fn refused(s: SoFar, reason: Reason) -> Taken
+    ensures { λ r. ⌜ r .verdict ≡ Refused reason ⌝ }
+{
+    Taken {
+        verdict: Verdict::Refused(reason),
+        so: s,
+    }
+}
+
 fn take_policy(s: SoFar, o: peal::Operator, default: i32, ranged: bool) -> Taken
-    requires { ⌜ Kept s ⌝ }
     ensures { λ r. ⌜ PolicyTaken s o default ranged r ⌝ }
 {
-    let b = s.book;
-    let asked = b.asked;
-    let opened = b.opened;
-    let v = judge_policy(asked, opened, ranged);
+    let v = judge_policy(s.asked, s.opened, ranged);
     match v {
-        Verdict::Fine => {
-            let c = add_policy(b, o, default);
-            Taken {
-                verdict: Verdict::Fine,
-                so: SoFar {
-                    inside: true,
-                    book: c,
-                },
-            }
-        }
-        Verdict::Refused(r) => Taken {
-            verdict: Verdict::Refused(r),
-            so: s,
+        Verdict::Fine => Taken {
+            verdict: Verdict::Fine,
+            so: add_policy(s, o, default),
         },
+        Verdict::Refused(r) => refused(s, r),
     }
 }
 
@@ -56,33 +53,14 @@ fn take_rule(s: SoFar, signal: u32, score: i32) -> Taken
     requires { ⌜ Kept s ⌝ }
     ensures { λ r. ⌜ RuleTaken s signal score r ⌝ }
 {
-    let b = s.book;
-    let inside = s.inside;
-    if inside {
-        let i = b.opened - 1;
-        let p = b.policies[i];
-        let v = judge_rule(inside, p, signal, score);
-        match v {
-            Verdict::Fine => {
-                let c = add_rule(b, signal, score);
-                Taken {
-                    verdict: Verdict::Fine,
-                    so: SoFar {
-                        inside: true,
-                        book: c,
-                    },
-                }
-            }
-            Verdict::Refused(r) => Taken {
-                verdict: Verdict::Refused(r),
-                so: s,
-            },
-        }
-    } else {
-        Taken {
-            verdict: Verdict::Refused(Reason::OutOfPlace),
-            so: s,
-        }
+    let p = s.policy;
+    let v = judge_rule(s.inside, p, signal, score);
+    match v {
+        Verdict::Fine => Taken {
+            verdict: Verdict::Fine,
+            so: add_rule(s, signal, score),
+        },
+        Verdict::Refused(r) => refused(s, r),
     }
 }
 
@@ -90,48 +68,39 @@ fn take_condition(s: SoFar, sense: peal::Sense, threshold: i32, p: Parse) -> Tak
     requires { ⌜ Kept s × (p .length ≤ 31) ⌝ }
     ensures { λ r. ⌜ ConditionTaken s sense threshold p r ⌝ }
 {
-    let b = s.book;
-    let asked = b.asked;
-    let opened = b.opened;
-    let v = judge_condition(asked, opened, threshold, p);
+    let v = judge_condition(s.asked, s.opened, threshold, p);
     match v {
         Verdict::Fine => {
             let count = p.length;
             let codes = p.codes;
-            let c = add_condition(
-                b,
-                Condition {
-                    sense: sense,
-                    threshold: threshold,
-                    length: count,
-                    codes: codes,
-                },
-            );
+            let c = Condition {
+                sense: sense,
+                threshold: threshold,
+                length: count,
+                codes: codes,
+            };
             Taken {
                 verdict: Verdict::Fine,
-                so: SoFar {
-                    inside: false,
-                    book: c,
-                },
+                so: add_condition(s, c),
             }
         }
-        Verdict::Refused(r) => Taken {
-            verdict: Verdict::Refused(r),
-            so: s,
-        },
+        Verdict::Refused(r) => refused(s, r),
     }
 }
 
-// A line of at most 128 bytes, taken by its form.
-pub fn take_line(s: SoFar, line: &[u8]) -> Taken
-    requires { ⌜ Kept s × (length (now line) ≤ 128) ⌝ }
-    ensures { λ r. ⌜ LineTaken s (now (line .entry)) r ⌝ }
+// A line; `ended` tells whether byte 10 ends it.
+pub fn take_line(s: SoFar, line: &[u8], ended: bool) -> Taken
+    requires { ⌜ Kept s ⌝ }
+    ensures { λ r. ⌜ LineTaken s (record { text = now (line .entry); ended = ended }) r ⌝ }
 {
+    if 128 < line.len() {
+        return refused(s, Reason::TooLong);
+    }
+    if !ended {
+        return refused(s, Reason::NoForm);
+    }
     let LineRead::Good(l) = read_line(line) else {
-        return Taken {
-            verdict: Verdict::Refused(Reason::NoForm),
-            so: s,
-        };
+        return refused(s, Reason::NoForm);
     };
     match l {
         Line::Policy { operator, default } => {
@@ -148,10 +117,7 @@ pub fn take_line(s: SoFar, line: &[u8]) -> Taken
             if p.ok {
                 take_condition(s, sense, threshold, p)
             } else {
-                Taken {
-                    verdict: Verdict::Refused(Reason::NoForm),
-                    so: s,
-                }
+                refused(s, Reason::NoForm)
             }
         }
     }

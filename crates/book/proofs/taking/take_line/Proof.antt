@@ -1,4 +1,5 @@
--- `book::taking::take_line`: each form by the function that takes it; a line of no form is refused.
+-- `book::taking::take_line`: each form by the function that takes it; a line that is too long, open or of no form is refused.
+use mathlib.Core.Bool.{true}
 use mathlib.Core.Option.{some, none}
 use mathlib.Core.Path.{_≡_, refl, sym, ap, subst, _∙_}
 use lib.IntN.{pos, negℤ}
@@ -9,7 +10,8 @@ use Rattle.book.specs.LineMeaning.{lineMeaning, StartIn}
 use Rattle.book.specs.declared.lines.Line.{Line}
 use Rattle.book.specs.declared.lines.LineRead.the-variants.{Good}
 use Rattle.book.proofs.ExpressionLaws.{expression-found, expression-not-found}
-use Rattle.book.proofs.TakingLaws.{taken-form, taken-none, with-expression, with-none, taken-rule-at, taken-condition-at}
+use Rattle.book.proofs.TakingLaws.{taken-long, taken-open, taken-form, taken-none, with-expression, with-none, taken-rule-at, taken-condition-at}
+use borrow.Author.Tests.{not-true, not-false}
 use borrow.Author.Needs.{needs}
 use Rattle.book.proofs.taking.take_line.Statement.{statement}
 use Rattle.book.proofs.taking.take_line.Tie as tie
@@ -21,6 +23,22 @@ default-kept c = search needs
 threshold-kept : (c : tie.After-known-told5) → toZ w32 (ofZ w32 (c .before .l5 .given .0 .1 .0)) ≡ c .before .l5 .given .0 .1 .0
 threshold-kept c = search needs
 
+refused-requires : tie.Need-refused-requires
+refused-requires c κs = search needs
+
+returns : tie.Need-returns
+returns c = λ n so e b. taken-long n so _ _ (c .before .if1 .taken) (c .refused .ensures)
+
+refused-requires-2 : tie.Need-refused-requires-2
+refused-requires-2 c κs = search needs
+
+returns-2 : tie.Need-returns-2
+returns-2 c = λ n so e b. taken-open n so _ _ (c .before .before .if1 .left) (not-true _ (c .before .if2 .taken)) (c .refused2 .ensures)
+
+-- the line that is read has its end
+whole : (r : tie.After-read-line) → r .before .before .before .before .args .ended ≡ true
+whole r = not-false _ (r .before .if2 .left)
+
 read-line-requires : tie.Need-read-line-requires
 read-line-requires c κs = search needs
 
@@ -30,11 +48,14 @@ enum-known-l c = search needs
 enum-told : tie.Need-enum-told
 enum-told c = search needs
 
-returns : tie.Need-returns
-returns c =
-    let r = c .before .before in
-    let s = r .before .before in
-    λ n so e b. taken-none n so _ _ (sym (r .read-line .ensures .0) ∙ ap (lineMeaning (s .args .line .now)) (c .enum-told .given .1)) refl
+refused-requires-3 : tie.Need-refused-requires-3
+refused-requires-3 c κs = search needs
+
+returns-3 : tie.Need-returns-3
+returns-3 c =
+    let r = c .before .before .before in
+    let s = r .before .before .before .before in
+    λ n so e b. taken-none n so _ _ (r .before .before .if1 .left) (whole r) (sym (r .read-line .ensures .0) ∙ ap (lineMeaning (s .args .line .now)) (c .before .enum-told .given .1)) (c .refused3 .ensures)
 
 enum-known-l-2 : tie.Need-enum-known-l-2
 enum-known-l-2 c = search needs
@@ -43,19 +64,19 @@ within-requires : tie.Need-within-requires
 within-requires c κs = search needs
 
 take-policy-requires : tie.Need-take-policy-requires
-take-policy-requires c κs = c .before .before .before .before .before .before .before .before .before .pre .0
+take-policy-requires c κs = search needs
 
 enum-known-l-3 : tie.Need-enum-known-l-3
 enum-known-l-3 c = search needs
 
 take-policy-requires-2 : tie.Need-take-policy-requires-2
-take-policy-requires-2 c κs = c .before .before .before .before .before .before .before .before .pre .0
+take-policy-requires-2 c κs = search needs
 
 enum-known-l-4 : tie.Need-enum-known-l-4
 enum-known-l-4 c = search needs
 
 take-rule-requires : tie.Need-take-rule-requires
-take-rule-requires c κs = c .before .before .before .before .before .before .before .before .pre .0
+take-rule-requires c κs = search needs
 
 enum-known-l-5 : tie.Need-enum-known-l-5
 enum-known-l-5 c = search needs
@@ -65,76 +86,84 @@ read-expression-requires c κs =
     let k = c .before in
     let a = k .before .before .before in
     let r = a .before .before in
-    let s = r .before .before in
+    let s = r .before .before .before .before in
     let i = subst (StartIn (s .args .line .now)) (a .l .given .1 ∙ ap (λ (x : Line). Good x) (k .l5 .given .1)) (r .read-line .ensures .1) in
-    (s .pre .1, i .0, i .1)
+    (r .before .before .if1 .left, i .0, i .1)
 
 take-condition-requires : tie.Need-take-condition-requires
-take-condition-requires c κs = (c .before .before .before .before .before .before .before .before .before .before .pre .0, c .before .read-expression .ensures .few)
+take-condition-requires c κs = search needs
 
-returns-2 : tie.Need-returns-2
+refused-requires-4 : tie.Need-refused-requires-4
+refused-requires-4 c κs = search needs
+
+returns-4 : tie.Need-returns-4
 unfolding defaultOf defaultInRange
-returns-2 c =
+returns-4 c =
     let k = c .before .before .before in
     let a = k .before .before .before in
     let r = a .before .before in
-    let s = r .before .before in
+    let s = r .before .before .before .before in
     let f = sym (r .read-line .ensures .0) ∙ ap (lineMeaning (s .args .line .now)) (a .l .given .1) ∙ ap (λ (x : Line). lineMeaning (s .args .line .now) (Good x)) (k .l2 .given .1) in
     let z = default-kept (c .before .before) in
     λ n so e b.
-    taken-form n so _ _ _ f
+    taken-form n so _ _ (r .before .before .if1 .left) (whole r) _ f
     (c .take-policy .ensures n so (some (k .l2 .given .0 .1 .0)) e b z (c .before .within .ensures ∙ ap (within (negℤ (pos 10000)) (pos 10000)) z))
 
-returns-3 : tie.Need-returns-3
-unfolding defaultOf defaultInRange
-returns-3 c =
-    let k = c .before .before in
-    let a = k .before .before .before in
-    let r = a .before .before in
-    let s = r .before .before in
-    let f = sym (r .read-line .ensures .0) ∙ ap (lineMeaning (s .args .line .now)) (a .l .given .1) ∙ ap (λ (x : Line). lineMeaning (s .args .line .now) (Good x)) (k .l3 .given .1) in
-    λ n so e b. taken-form n so _ _ _ f (c .take-policy2 .ensures n so none e b refl refl)
-
-returns-4 : tie.Need-returns-4
-returns-4 c =
-    let k = c .before .before in
-    let a = k .before .before .before in
-    let r = a .before .before in
-    let s = r .before .before in
-    let f = sym (r .read-line .ensures .0) ∙ ap (lineMeaning (s .args .line .now)) (a .l .given .1) ∙ ap (λ (x : Line). lineMeaning (s .args .line .now) (Good x)) (k .l4 .given .1) in
-    let z : toZ w32 (ofZ w32 (k .l4 .given .0 .1 .0)) ≡ k .l4 .given .0 .1 .0 = search needs in
-    λ n so e b. taken-form n so _ _ _ f (taken-rule-at n so _ _ _ _ z (c .take-rule .ensures n so e b))
-
 returns-5 : tie.Need-returns-5
+unfolding defaultOf defaultInRange
 returns-5 c =
-    let k = c .before .before .before .before in
+    let k = c .before .before in
     let a = k .before .before .before in
     let r = a .before .before in
-    let s = r .before .before in
-    let f = sym (r .read-line .ensures .0) ∙ ap (lineMeaning (s .args .line .now)) (a .l .given .1) ∙ ap (λ (x : Line). lineMeaning (s .args .line .now) (Good x)) (k .l5 .given .1) in
-    let z = threshold-kept (c .before .before .before) in
-    let x = expression-found _ _ _ (c .before .before .read-expression .ensures) (c .before .if1 .taken) in
-    λ n so e b.
-    taken-form n so _ _ _ (f ∙ with-expression _ _ _ _ (x .found)) (taken-condition-at n so _ _ _ _ _ z (c .take-condition .ensures n so (x .tree) e b (x .count) (x .cells)))
+    let s = r .before .before .before .before in
+    let f = sym (r .read-line .ensures .0) ∙ ap (lineMeaning (s .args .line .now)) (a .l .given .1) ∙ ap (λ (x : Line). lineMeaning (s .args .line .now) (Good x)) (k .l3 .given .1) in
+    λ n so e b. taken-form n so _ _ (r .before .before .if1 .left) (whole r) _ f (c .take-policy2 .ensures n so none e b refl refl)
 
 returns-6 : tie.Need-returns-6
 returns-6 c =
-    let k = c .before .before .before in
+    let k = c .before .before in
     let a = k .before .before .before in
     let r = a .before .before in
-    let s = r .before .before in
+    let s = r .before .before .before .before in
+    let f = sym (r .read-line .ensures .0) ∙ ap (lineMeaning (s .args .line .now)) (a .l .given .1) ∙ ap (λ (x : Line). lineMeaning (s .args .line .now) (Good x)) (k .l4 .given .1) in
+    let z : toZ w32 (ofZ w32 (k .l4 .given .0 .1 .0)) ≡ k .l4 .given .0 .1 .0 = search needs in
+    λ n so e b. taken-form n so _ _ (r .before .before .if1 .left) (whole r) _ f (taken-rule-at n so _ _ _ _ z (c .take-rule .ensures n so e b))
+
+returns-7 : tie.Need-returns-7
+returns-7 c =
+    let k = c .before .before .before .before in
+    let a = k .before .before .before in
+    let r = a .before .before in
+    let s = r .before .before .before .before in
     let f = sym (r .read-line .ensures .0) ∙ ap (lineMeaning (s .args .line .now)) (a .l .given .1) ∙ ap (λ (x : Line). lineMeaning (s .args .line .now) (Good x)) (k .l5 .given .1) in
-    let x = expression-not-found _ _ _ (c .before .read-expression .ensures) (c .if1 .left) in
-    λ n so e b. taken-none n so _ _ (f ∙ with-none _ _ _ x) refl
+    let z = threshold-kept (c .before .before .before) in
+    let x = expression-found _ _ _ (c .before .before .read-expression .ensures) (c .before .if3 .taken) in
+    λ n so e b.
+    taken-form n so _ _ (r .before .before .if1 .left) (whole r) _ (f ∙ with-expression _ _ _ _ (x .found)) (taken-condition-at n so _ _ _ _ _ z (c .take-condition .ensures n so (x .tree) e b (x .count) (x .cells)))
+
+returns-8 : tie.Need-returns-8
+returns-8 c =
+    let k = c .before .before .before .before in
+    let a = k .before .before .before in
+    let r = a .before .before in
+    let s = r .before .before .before .before in
+    let f = sym (r .read-line .ensures .0) ∙ ap (lineMeaning (s .args .line .now)) (a .l .given .1) ∙ ap (λ (x : Line). lineMeaning (s .args .line .now) (Good x)) (k .l5 .given .1) in
+    let x = expression-not-found _ _ _ (c .before .before .read-expression .ensures) (c .before .if3 .left) in
+    λ n so e b. taken-none n so _ _ (r .before .before .if1 .left) (whole r) (f ∙ with-none _ _ _ x) (c .refused4 .ensures)
 
 pub take-line-spec : {M : Type 1} → statement M
 take-line-spec =
     tie.close
     (tie.spec
+    refused-requires
+    returns
+    refused-requires-2
+    returns-2
     read-line-requires
     enum-known-l
     enum-told
-    returns
+    refused-requires-3
+    returns-3
     enum-known-l-2
     within-requires
     take-policy-requires
@@ -145,8 +174,9 @@ take-line-spec =
     enum-known-l-5
     read-expression-requires
     take-condition-requires
-    returns-2
-    returns-3
+    refused-requires-4
     returns-4
     returns-5
-    returns-6)
+    returns-6
+    returns-7
+    returns-8)
