@@ -1,4 +1,7 @@
 // The answers of the calls on standard output, in document 01's words and numbers, for the programs. No line end is added.
+ghost use mathlib.Core.Path.{_≡_};
+ghost use Rattle.book.specs.Meaning.{reasonNumber};
+
 pub fn print(text: &[u8]) {
     io::write_all(libc::STDOUT_FILENO, text);
 }
@@ -14,7 +17,9 @@ pub fn print_refused(number: u64, value: u64) {
     print_number(value);
 }
 
-fn reason_number(reason: book::Reason) -> u64 {
+fn reason_number(reason: book::Reason) -> u64
+    ensures { λ r. ⌜ r ≡ reasonNumber reason ⌝ }
+{
     match reason {
         book::Reason::TooLong => 1,
         book::Reason::NoForm => 2,
