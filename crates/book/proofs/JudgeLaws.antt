@@ -1,34 +1,32 @@
 -- Laws of accepting a line: the tests 3 to 6 in their order, and what the code's loops and tests say of them.
 use Prim.Native.Nat.{ℕ, _+_, _≤_, _<_}
-use mathlib.Core.Bool.{Bool, true, false, not, _&&_, and-assoc, and-true}
-use mathlib.Core.List.{List, [], _∷_, _++_}
+use mathlib.Core.Bool.{Bool, true, false, not, _&&_}
+use mathlib.Core.List.{List, [], _∷_}
 use mathlib.Core.Option.{Option}
 use mathlib.Core.Path.{_≡_, refl, sym, ap, _∙_}
 use native.Mathlib.Numerals.{add-one}
 use native.Mathlib.Omega.{arith}
 use lib.Dec.{leb, ltb, eqb}
 use lib.IntN.{ℤ, pos, negℤ}
-use lib.ListN.{length, getD, take, drop, drop-of-length-le, length-map}
-use lib.Seq.{length-take-le, drop-cons, getD-take}
-use borrow.Author.Tests.{eq-eqb, ne-eqb, lt-ltb, le-ltb, ltb-true, ltb-false, le-leb, lt-leb}
+use lib.ListN.{length, getD, take, drop, drop-of-length-le}
+use lib.Seq.{drop-cons, getD-take}
+use borrow.Author.Tests.{eq-eqb, ne-eqb, lt-ltb, le-ltb, le-leb, lt-leb}
 use Rattle.answers.specs.Answers.{result, refused}
-use Rattle.arith.specs.Lists.{every, any, padded}
-use Rattle.arith.specs.Trees.{leaf, join, joining, treeValue}
+use Rattle.arith.specs.Lists.{every, Distinct}
 use Rattle.arith.proofs.AnyEvery.{any-map}
-use Rattle.peal.specs.Policies.{Rule, Policy, MinMax, smaller, larger, Expression}
+use Rattle.signals.specs.Sets.{present}
+use Rattle.signals.proofs.SetOfLaws.{present-set}
+use Rattle.peal.specs.Policies.{Rule, Expression}
+use Rattle.peal.specs.Translation.{maskOf}
 use Rattle.peal.specs.declared.Operator.{Operator}
 use Rattle.peal.specs.declared.Sense.{Sense}
 use Rattle.book.specs.Forms.{Form, policy, rule, condition}
 use Rattle.book.specs.Acceptance.{BookSoFar, lastPolicy, inPlace, inCount, roomForRule, within, defaultInRange, scoreInRange, mentionsBelow, inRange, isNew, accept}
 use Rattle.book.specs.Ranges.{signalsOf}
-use Rattle.book.specs.Codes.{codeOf, codesOf}
-use Rattle.book.specs.Stored.{storedPolicy}
+use Rattle.book.specs.Codes.{HoldsCodes}
 use Rattle.book.specs.Judged.{after}
 use Rattle.book.specs.declared.Reason.{Reason}
 use Rattle.book.specs.declared.acceptance.Verdict.the-variants.{Fine, Refused}
-use Rattle.book.specs.declared.stored.Policy.{Policy as StoredPolicy}
-use Rattle.book.specs.declared.expressions.Parse.{Parse}
-use Rattle.book.proofs.ExpressionLaws.{codes-leaf, codes-join, take-padded}
 
 -- ---- the tests in their order
 
@@ -84,40 +82,40 @@ module _ (so : BookSoFar) (o : Operator) (d : Option ℤ) where
   unfolding isNew
   policy-new = refl
 
--- ---- a rule, for the policy p that it would be added to
+-- ---- a rule, for the operator o of the policy that it would be added to
 
-module _ (so : BookSoFar) (p : StoredPolicy) (s : ℕ) (v : ℤ) (q : p ≡ storedPolicy (lastPolicy (so .book))) where
+module _ (so : BookSoFar) (s : ℕ) (v : ℤ) where
   pub rule-placed : (t b : Bool) → t ≡ so .inRules → t ≡ b → inPlace so (rule s v) ≡ b
   unfolding inPlace
   rule-placed t b e h = sym e ∙ h
 
-  pub rule-count : p .count ≡ length (lastPolicy (so .book) .rules)
-  unfolding storedPolicy
-  rule-count = ap (λ (x : StoredPolicy). x .count) q
+  module _ (o : Operator) (same : o ≡ lastPolicy (so .book) .operator) where
+    pub rule-counted : (n : ℕ) → n ≡ length (lastPolicy (so .book) .rules) → (t b : Bool) → ((rules : List Rule) → n ≡ length rules → t ≡ roomForRule o rules) → t ≡ b
+        → inCount so (rule s v) ≡ b
+    unfolding inCount
+    rule-counted n e t b f h =
+        ap (λ (x : Operator). roomForRule x (lastPolicy (so .book) .rules)) (sym same)
+        ∙ sym (f (lastPolicy (so .book) .rules) e) ∙ h
 
-  same-operator : p .operator ≡ lastPolicy (so .book) .operator
-  unfolding storedPolicy
-  same-operator = ap (λ (x : StoredPolicy). x .operator) q
+    range-is : inRange so (rule s v) ≡ (leb s 15 && scoreInRange o v)
+    unfolding inRange
+    range-is = ap (λ (x : Operator). leb s 15 && scoreInRange x v) (sym same)
 
-  pub rule-counted : (t b : Bool) → ((rules : List Rule) → p .count ≡ length rules → t ≡ roomForRule (p .operator) rules) → t ≡ b → inCount so (rule s v) ≡ b
-  unfolding inCount
-  rule-counted t b f h =
-      ap (λ (o : Operator). roomForRule o (lastPolicy (so .book) .rules)) (sym same-operator)
-      ∙ sym (f (lastPolicy (so .book) .rules) rule-count) ∙ h
+    pub signal-out : 15 < s → inRange so (rule s v) ≡ false
+    signal-out h = range-is ∙ rw (lt-leb s 15 h)
 
-  range-is : inRange so (rule s v) ≡ (leb s 15 && scoreInRange (p .operator) v)
-  unfolding inRange
-  range-is = ap (λ (o : Operator). leb s 15 && scoreInRange o v) (sym same-operator)
+    pub score-range : (t b : Bool) → s ≤ 15 → t ≡ scoreInRange o v → t ≡ b → inRange so (rule s v) ≡ b
+    score-range t b h e k = range-is ∙ rw (le-leb s 15 h) (sym e ∙ k)
 
-  pub signal-out : 15 < s → inRange so (rule s v) ≡ false
-  signal-out h = range-is ∙ rw (lt-leb s 15 h)
-
-  pub score-range : (t b : Bool) → s ≤ 15 → t ≡ scoreInRange (p .operator) v → t ≡ b → inRange so (rule s v) ≡ b
-  score-range t b h e k = range-is ∙ rw (le-leb s 15 h) (sym e ∙ k)
-
-  pub rule-new : (t b : Bool) → ((r : Policy) → p ≡ storedPolicy r → t ≡ any (λ (x : Rule). eqb (x .signal) s) (r .rules)) → t ≡ b → isNew so (rule s v) ≡ not b
-  unfolding isNew
-  rule-new t b f h = ap not (sym (f (lastPolicy (so .book)) q) ∙ h)
+  -- the signal is new where it is not in the set of those that are there
+  pub rule-new : Distinct (signalsOf (lastPolicy (so .book) .rules)) → (mask : ℕ) → mask ≡ maskOf (lastPolicy (so .book) .rules) → (t b : Bool) → t ≡ present mask s → t ≡ b
+      → isNew so (rule s v) ≡ not b
+  unfolding isNew maskOf
+  rule-new d mask e t b f h =
+      let rules = lastPolicy (so .book) .rules in
+      ap not
+      (sym (any-map (λ (r : Rule). r .signal) (λ y. eqb y s) rules)
+      ∙ sym (present-set (signalsOf rules) d s) ∙ ap (λ (m : ℕ). present m s) (sym e) ∙ sym f ∙ h)
 
 -- ---- a condition
 
@@ -147,67 +145,23 @@ module _ (so : BookSoFar) (c : Sense) (t : ℤ) (e : Expression) where
   unfolding isNew
   condition-new = refl
 
--- ---- the first n cells of an array, one by one
+-- ---- the codes of an expression in the first n cells, one by one
 
-module _ (l : List ℕ) (n i : ℕ) (room : n ≤ length l) where
+module _ (l : List ℕ) (n i : ℕ) (e : Expression) (held : HoldsCodes l n e) where
+  long : length (take n l) ≡ n
+  long = ap length (held .same) ∙ sym (held .count)
+
   cell-at : i < n → drop i (take n l) ≡ getD l i 0 ∷ drop (i + 1) (take n l)
-  cell-at h = rw (drop-cons (take n l) i 0 (omega (arith, length-take-le n l room)), getD-take n l i 0 h, add-one i)
+  cell-at h = rw (drop-cons (take n l) i 0 (omega (arith, long)), getD-take n l i 0 h, add-one i)
 
   cells-end : n ≤ i → drop i (take n l) ≡ []
-  cells-end h = drop-of-length-le (take n l) {i = i} (omega (arith, length-take-le n l room))
-
-  pub any-here : (x : ℕ) → i < n → getD l i 0 ≡ x → true ≡ any (λ y. eqb y x) (drop i (take n l))
-  any-here x h e = rw (cell-at h, eq-eqb (getD l i 0) x e)
-
-  pub any-further : (x : ℕ) → i < n → (getD l i 0 ≡ x → ⊥) → any (λ y. eqb y x) (drop (i + 1) (take n l)) ≡ any (λ y. eqb y x) (drop i (take n l))
-  any-further x h e = rw (cell-at h, ne-eqb (getD l i 0) x e)
-
-  pub any-none : (x : ℕ) → n ≤ i → false ≡ any (λ y. eqb y x) (drop i (take n l))
-  any-none x h = rw (cells-end h)
+  cells-end h = drop-of-length-le (take n l) {i = i} (omega (arith, long))
 
   pub all-further : (x : ℕ) → i < n → getD l i 0 < x → every (λ y. ltb y x) (drop (i + 1) (take n l)) ≡ every (λ y. ltb y x) (drop i (take n l))
-  all-further x h e = rw (cell-at h, lt-ltb (getD l i 0) x e)
+  all-further x h k = rw (cell-at h, lt-ltb (getD l i 0) x k)
 
   pub all-not : (x : ℕ) → i < n → x ≤ getD l i 0 → false ≡ every (λ y. ltb y x) (drop i (take n l))
-  all-not x h e = rw (cell-at h, le-ltb (getD l i 0) x e)
+  all-not x h k = rw (cell-at h, le-ltb (getD l i 0) x k)
 
   pub all-end : (x : ℕ) → n ≤ i → true ≡ every (λ y. ltb y x) (drop i (take n l))
   all-end x h = rw (cells-end h)
-
--- ---- what the cells hold
-
-pub signal-cells : (p : StoredPolicy) (s : ℕ) (q : Policy) → p ≡ storedPolicy q → any (λ y. eqb y s) (take (p .count) (p .signals)) ≡ any (λ (r : Rule). eqb (r .signal) s) (q .rules)
-unfolding storedPolicy
-signal-cells p s q e =
-    let signals : List ℕ = signalsOf (q .rules) in
-    ap (λ (x : StoredPolicy). any (λ y. eqb y s) (take (x .count) (x .signals))) e
-    ∙ ap (λ (k : ℕ). any (λ y. eqb y s) (take k (padded 16 0 signals))) (sym (length-map (q .rules) (λ (r : Rule). r .signal)))
-    ∙ ap (any (λ y. eqb y s)) (take-padded 16 0 signals)
-    ∙ any-map (λ (r : Rule). r .signal) (λ y. eqb y s) (q .rules)
-
-every-append : (x : ℕ) (a b : List ℕ) → every (λ y. ltb y x) (a ++ b) ≡ (every (λ y. ltb y x) a && every (λ y. ltb y x) b)
-every-append x [] b = refl
-every-append x (c ∷ a) b = rw (every-append x a b) (sym (and-assoc (ltb c x) (every (λ y. ltb y x) a) (every (λ y. ltb y x) b)))
-
-join-below : (m : MinMax) (n : ℕ) → ltb (codeOf (joining m)) (n + 2) ≡ true
-unfolding codeOf
-join-below smaller n = lt-ltb 0 (n + 2) (omega arith)
-join-below larger n = lt-ltb 1 (n + 2) (omega arith)
-
-shift : (m n : ℕ) → ltb (m + 2) (n + 2) ≡ ltb m n
-shift m n = go (ltb m n) refl
-  where
-    go : (t : Bool) → ltb m n ≡ t → ltb (m + 2) (n + 2) ≡ t
-    go true e = lt-ltb (m + 2) (n + 2) (omega (arith, ltb-true m n e))
-    go false e = le-ltb (m + 2) (n + 2) (omega (arith, ltb-false m n e))
-
-pub codes-below : (n : ℕ) (e : Expression) → every (λ y. ltb y (n + 2)) (codesOf e) ≡ mentionsBelow n e
-unfolding mentionsBelow treeValue
-codes-below n (leaf m) = rw (codes-leaf m, shift m n) (and-true (ltb m n))
-codes-below n (join j a b) =
-    rw (codes-join j a b, every-append (n + 2) (codesOf a ++ codesOf b) (codeOf (joining j) ∷ []), every-append (n + 2) (codesOf a) (codesOf b), join-below j n, codes-below n a, codes-below n b)
-    (and-true (treeValue (λ (m : MinMax) x y. x && y) (λ m. ltb m n) a && treeValue (λ (m : MinMax) x y. x && y) (λ m. ltb m n) b))
-
-pub code-cells : (p : Parse) (n : ℕ) (e : Expression) → p .length ≡ length (codesOf e) → p .codes ≡ padded 31 0 (codesOf e)
-    → every (λ y. ltb y (n + 2)) (take (p .length) (p .codes)) ≡ mentionsBelow n e
-code-cells p n e l c = rw (l, c, take-padded 31 0 (codesOf e)) (codes-below n e)

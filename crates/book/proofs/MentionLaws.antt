@@ -14,7 +14,8 @@ use Rattle.book.specs.Numbers.{natural}
 use Rattle.book.specs.Expressions.{mentionWord, minMaxWord, digitCount, mention, Opening, mentions, joins, neither, opening, joinedPair, byOpening, readSet, readPair, nothingBehind, expression}
 use Rattle.book.specs.Ranges.{mentionCount}
 use Rattle.book.specs.Codes.{codesOf, codeOf}
-use Rattle.book.proofs.ExpressionLaws.{begins-length, digits-within, natural-length, codes-leaf, codes-join}
+use Rattle.book.proofs.CodeLaws.{codes-leaf, codes-join}
+use Rattle.book.proofs.ExpressionLaws.{begins-length, digits-within, natural-length}
 
 -- ---- mentions and codes
 

@@ -17,7 +17,7 @@ use Rattle.arith.proofs.Distinct.{at-most, distinct-more}
 use Rattle.arith.proofs.Each.{each-none, each-get, each-more, each-set}
 use Rattle.arith.proofs.Options.{Finds}
 use Rattle.arith.proofs.Tests.{and-left, and-right, clash}
-use Rattle.peal.specs.Policies.{Rule, Policy, Condition, Book, policyAt, emptyPolicy}
+use Rattle.peal.specs.Policies.{Rule, Policy, Condition, Book, policyAt}
 use Rattle.peal.specs.declared.Operator.{Operator}
 use Rattle.peal.specs.declared.Operator.the-variants.{Mul}
 use Rattle.book.specs.Text.{Line, textLines}
@@ -89,10 +89,6 @@ one-in-range : (ps : List Policy) (i : ℕ) → Each PolicyInRange ps → i < le
 unfolding policyAt
 one-in-range ps i k h = each-get PolicyInRange ps i _ k h
 
-no-rules : length (policyAt [] (0 - 1) .rules) ≤ 16
-unfolding policyAt emptyPolicy
-no-rules = omega arith
-
 module _ (b : Book) (h : BookInRange b) where
   pub policy-in-range : (i : ℕ) → i < length (b .policies) → PolicyInRange (policyAt (b .policies) i)
   policy-in-range i s = one-in-range (b .policies) i (h .policies) s
@@ -100,14 +96,6 @@ module _ (b : Book) (h : BookInRange b) where
   last-in-range : 0 < length (b .policies) → PolicyInRange (lastPolicy b)
   unfolding lastPolicy
   last-in-range s = policy-in-range (length (b .policies) - 1) (omega arith)
-
-  pub last-rules-at-most : length (lastPolicy b .rules) ≤ 16
-  unfolding lastPolicy
-  last-rules-at-most = go (b .policies) (h .policies)
-    where
-      go : (ps : List Policy) → Each PolicyInRange ps → length (policyAt ps (length ps - 1) .rules) ≤ 16
-      go [] k = no-rules
-      go (p ∷ ps) k = rules-at-most _ (one-in-range (p ∷ ps) (length (p ∷ ps) - 1) k (omega arith))
 
   policy-added : (p : Policy) → length (b .conditions) ≡ 0 → length (b .policies) < 16 → PolicyInRange p → BookInRange (withPolicies b (b .policies ++ (p ∷ [])))
   unfolding withPolicies

@@ -1,18 +1,22 @@
--- The rules of a stored policy, for the crates above.
+-- The rules of a policy by value, for the crates above.
 use Prim.Native.Nat.{ℕ, suc, _-_, _≤_, _<_}
-use mathlib.Core.List.{List, _∷_, map}
-use mathlib.Core.Path.{_≡_, ap, _∙_}
+use mathlib.Core.List.{List, [], _∷_, map}
+use mathlib.Core.Path.{_≡_, refl, ap, _∙_}
 use native.Mathlib.Omega.{arith}
 use lib.IntN.{pos}
-use lib.ListN.{length, getD, drop, length-map, List·getD-map}
+use lib.ListN.{length, getD, set, drop, length-map, List·getD-map}
 use lib.Seq.{drop-cons}
-use Rattle.arith.proofs.Each.{each-get}
 use Rattle.arith.proofs.Padding.{padded-get}
 use Rattle.peal.specs.Policies.{Rule, Policy, noRule}
-use Rattle.book.specs.Ranges.{signalsOf, PolicyKept}
-use Rattle.book.specs.Stored.{storedPolicy}
-use Rattle.book.specs.declared.stored.Policy.{Policy as StoredPolicy}
+use Rattle.book.specs.Ranges.{signalsOf, PolicyByValue}
+use Rattle.book.specs.Cells.{storedPolicy}
+use Rattle.book.specs.declared.cells.Policy.{Policy as StoredPolicy}
 use Rattle.book.proofs.RangeLaws.{rules-at-most}
+
+pub map-set : {A B : Type 0} (f : A → B) (l : List A) (i : ℕ) (x : A) → set (map f l) i (f x) ≡ map f (set l i x)
+map-set f [] i x = refl
+map-set f (y ∷ l) ℕ.zero x = refl
+map-set {B = B} f (y ∷ l) (ℕ.suc i) x = ap {B = List B} (λ m. f y ∷ m) (map-set f l i x)
 
 -- the rules from the one before rule i on
 pub rules-before : (rules : List Rule) (i : ℕ) → 0 < i → i ≤ length rules → drop (i - 1) rules ≡ getD rules (i - 1) noRule ∷ drop i rules
@@ -50,12 +54,5 @@ module _ (p : StoredPolicy) (q : Policy) (e : p ≡ storedPolicy q) where
 
 -- ---- of a policy in range
 
-pub kept-count : (p : StoredPolicy) → PolicyKept p → p .count ≤ 16
+pub kept-count : (p : StoredPolicy) → PolicyByValue p → p .count ≤ 16
 kept-count p k = omega (arith, count-is p (k .0) (k .1), rules-at-most (k .0) (k .2))
-
-pub kept-signal : (p : StoredPolicy) (i : ℕ) → PolicyKept p → i < p .count → getD (p .signals) i 0 ≤ 15
-unfolding noRule
-kept-signal p i k h =
-    let l = k .0 .rules in
-    let small = each-get (λ (s : ℕ). s < 16) (signalsOf l) i 0 (k .2 .signals) (omega (arith, count-is p (k .0) (k .1), length-map l (λ (r : Rule). r .signal))) in
-    omega (arith, signal-at p (k .0) (k .1) i h, small, List·getD-map (λ (r : Rule). r .signal) l i noRule)

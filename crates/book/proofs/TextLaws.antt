@@ -3,7 +3,7 @@ use Prim.Native.Nat.{ℕ, suc, _+_, _-_, _≤_, _<_}
 use mathlib.Core.Bool.{Bool, true, false, cond, _&&_}
 use mathlib.Core.List.{List, [], _∷_}
 use mathlib.Core.Logic.{⊎-elim}
-use mathlib.Core.Path.{_≡_, refl, ap, _∙_}
+use mathlib.Core.Path.{_≡_, refl, sym, ap, subst, _∙_}
 use native.Mathlib.Nat.{eq-or-lt-of-le}
 use native.Mathlib.Numerals.{add-one}
 use native.Mathlib.Omega.{arith}
@@ -17,17 +17,32 @@ use Rattle.book.specs.Spelling.{upTo}
 
 -- ---- the next x, from a place on
 
-pub x-here : (x : ℕ) (s : List ℕ) (i : ℕ) → i < length s → getD s i 0 ≡ x → upTo x (drop i s) ≡ 0
+x-here : (x : ℕ) (s : List ℕ) (i : ℕ) → i < length s → getD s i 0 ≡ x → upTo x (drop i s) ≡ 0
 unfolding upTo
 x-here x s i h e = rw (drop-cons s i 0 h, eq-eqb (getD s i 0) x e)
 
-pub x-further : (x : ℕ) (s : List ℕ) (i : ℕ) → i < length s → (getD s i 0 ≡ x → ⊥) → upTo x (drop i s) ≡ suc (upTo x (drop (i + 1) s))
+x-further : (x : ℕ) (s : List ℕ) (i : ℕ) → i < length s → (getD s i 0 ≡ x → ⊥) → upTo x (drop i s) ≡ suc (upTo x (drop (i + 1) s))
 unfolding upTo
 x-further x s i h e = rw (drop-cons s i 0 h, ne-eqb (getD s i 0) x e, add-one i)
 
-pub no-x : (x : ℕ) (s : List ℕ) (i : ℕ) → length s ≤ i → upTo x (drop i s) ≡ 0
+no-x : (x : ℕ) (s : List ℕ) (i : ℕ) → length s ≤ i → upTo x (drop i s) ≡ 0
 unfolding upTo
 no-x x s i h = rw (drop-of-length-le s h)
+
+-- no x stands between `at` and i
+pub record NoneUpTo (x : ℕ) (s : List ℕ) (at i : ℕ) : Type 0 where
+  pub passed : at + upTo x (drop at s) ≡ i + upTo x (drop i s)
+
+module _ {x : ℕ} {s : List ℕ} {at i : ℕ} (n : NoneUpTo x s at i) where
+  pub next-here : i < length s → getD s i 0 ≡ x → i ≡ at + upTo x (drop at s)
+  next-here h e = omega (arith, n .passed, x-here x s i h e)
+
+  -- and so up to the next place j
+  pub next-further : (j : ℕ) → j ≡ i + 1 → i < length s → (getD s i 0 ≡ x → ⊥) → NoneUpTo x s at j
+  next-further j q h e = subst (NoneUpTo x s at) (sym q) (record { passed = omega (arith, n .passed, x-further x s i h e) })
+
+  pub next-nowhere : length s ≤ i → i ≡ at + upTo x (drop at s)
+  next-nowhere h = omega (arith, n .passed, no-x x s i h)
 
 pub upTo-le : (x : ℕ) (s : List ℕ) → upTo x s ≤ length s
 unfolding upTo

@@ -1,24 +1,21 @@
 -- What the code's verdict on a line means.
 use Prim.Native.Nat.{ℕ}
 use mathlib.Core.Bool.{Bool}
+use mathlib.Core.List.{List}
 use mathlib.Core.Option.{Option}
 use mathlib.Core.Path.{_≡_}
 use lib.IntN.{ℤ}
 use lib.ListN.{length}
 use Rattle.answers.specs.Answers.{Answer, result, refused}
-use Rattle.arith.specs.Lists.{padded}
 use Rattle.peal.specs.Policies.{Expression}
 use Rattle.peal.specs.declared.Operator.{Operator}
 use Rattle.peal.specs.declared.Sense.{Sense}
-use Rattle.book.specs.Forms.{Form, policy, rule, condition}
-use Rattle.book.specs.Acceptance.{BookSoFar, defaultInRange, lastPolicy, bookWith, opensRules, accept}
-use Rattle.book.specs.Codes.{codesOf}
-use Rattle.book.specs.Stored.{storedPolicy}
+use Rattle.book.specs.Forms.{Form, policy, condition}
+use Rattle.book.specs.Acceptance.{BookSoFar, defaultInRange, bookWith, opensRules, accept}
+use Rattle.book.specs.Codes.{HoldsCodes}
 use Rattle.book.specs.Meaning.{reasonNumber}
 use Rattle.book.specs.declared.acceptance.Verdict.{Verdict}
 use Rattle.book.specs.declared.acceptance.Verdict.the-variants.{Fine, Refused}
-use Rattle.book.specs.declared.expressions.Parse.{Parse}
-use Rattle.book.specs.declared.stored.Policy.{Policy as StoredPolicy}
 
 -- a verdict on line n: what stands so far after the line, or the refusal
 abbrev pub verdictMeaning : ℕ → Verdict → BookSoFar → Answer BookSoFar
@@ -39,12 +36,8 @@ PolicyJudged asked opened inRange v =
     (so : BookSoFar) (o : Operator) (d : Option ℤ) → asked ≡ length (so .book .conditions) → opened ≡ length (so .book .policies) → inRange ≡ defaultInRange d
     → Judged so (policy o d) v
 
--- the verdict on a rule, from the policy that it would be added to
-abbrev pub RuleJudged : Bool → StoredPolicy → ℕ → ℤ → Verdict → Type 0
-RuleJudged inside p s w v = (so : BookSoFar) → inside ≡ so .inRules → p ≡ storedPolicy (lastPolicy (so .book)) → Judged so (rule s w) v
-
 -- the verdict on a condition, from the counts and the codes of its expression
-abbrev pub ConditionJudged : ℕ → ℕ → ℤ → Parse → Verdict → Type 0
-ConditionJudged asked opened t p v =
+abbrev pub ConditionJudged : ℕ → ℕ → ℤ → List ℕ → ℕ → Verdict → Type 0
+ConditionJudged asked opened t codes n v =
     (so : BookSoFar) (c : Sense) (e : Expression) → asked ≡ length (so .book .conditions) → opened ≡ length (so .book .policies)
-    → p .length ≡ length (codesOf e) → p .codes ≡ padded 31 0 (codesOf e) → Judged so (condition c t e) v
+    → HoldsCodes codes n e → Judged so (condition c t e) v

@@ -7,7 +7,7 @@ pub mod Books
 pub mod Spelling
 pub mod LineMeaning
 pub mod Codes
-pub mod Stored
+pub mod Cells
 pub mod Ranges
 pub mod Meaning
 pub mod Judged

@@ -1,8 +1,6 @@
 -- What the answers of the code mean, by document 01's numbers.
 use Prim.Native.Nat.{ℕ}
 use Rattle.answers.specs.Answers.{Answer, result, refused}
-use Rattle.peal.specs.Policies.{Book}
-use Rattle.book.specs.Acceptance.{emptyBook}
 use Rattle.book.specs.Books.{Counts}
 use Rattle.book.specs.declared.Reason.{Reason}
 use Rattle.book.specs.declared.Reason.the-variants.{TooLong, NoForm, OutOfPlace, TooMany, OutOfRange, Repeated}
@@ -27,8 +25,3 @@ refusalMeaning r = refused (reasonNumber (r .reason)) (r .line)
 abbrev pub checkedMeaning : Checked → Answer Counts
 checkedMeaning (Accepted p c) = result (record { policies = p; conditions = c })
 checkedMeaning (Refused r) = refusalMeaning r
-
--- the book that `book::read` gives: on a refusal the empty one
-unfoldable pub bookOrEmpty : Answer Book → Book
-bookOrEmpty (result b) = b
-bookOrEmpty (refused number value) = emptyBook

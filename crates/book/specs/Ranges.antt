@@ -1,19 +1,19 @@
 -- What every accepted book keeps to (document 01, "Ranges" and the limits of "The book"); proved in proofs/RangeLaws.antt.
-use Prim.Native.Nat.{ℕ, _+_, _≤_}
+use Prim.Native.Nat.{ℕ, _+_, _≤_, _<_}
 use mathlib.Core.Bool.{true}
 use mathlib.Core.List.{List, map}
 use mathlib.Core.Path.{_≡_}
-use lib.IntN.{pos, negℤ}
+use lib.IntN.{ℤ, pos, negℤ}
 use lib.ListN.{length}
 use Rattle.arith.specs.Lists.{Each, AllBelow, Distinct}
+use Rattle.answers.specs.Answers.{result}
 use Rattle.arith.specs.Trees.{treeValue}
 use Rattle.peal.specs.Policies.{Rule, Policy, MinMax, Expression, Condition, Book}
 use Rattle.peal.specs.declared.Operator.the-variants.{Mul}
 use Rattle.book.specs.Acceptance.{within, scoreInRange, mentionsBelow}
-use Rattle.book.specs.Stored.{storedPolicy, storedCondition, storedBook}
-use Rattle.book.specs.declared.stored.Policy.{Policy as StoredPolicy}
-use Rattle.book.specs.declared.stored.Condition.{Condition as StoredCondition}
-use Rattle.book.specs.declared.stored.Book.{Book as StoredBook}
+use Rattle.book.specs.Books.{conditionAt}
+use Rattle.book.specs.Cells.{PolicyCells, BookCells, storedPolicy}
+use Rattle.book.specs.declared.cells.Policy.{Policy as StoredPolicy}
 
 -- the signals of some rules
 abbrev pub signalsOf : List Rule → List ℕ
@@ -44,15 +44,21 @@ pub record BookInRange (b : Book) : Type 0 where
   pub policies : Each PolicyInRange (b .policies)
   pub conditions : Each (ConditionInRange (length (b .policies))) (b .conditions)
 
--- the stored policy is that of one in range
-abbrev pub PolicyKept : StoredPolicy → Type 0
-PolicyKept p = (q : Policy) × (p ≡ storedPolicy q) × PolicyInRange q
+-- the cells of policy k are those of a policy in range
+pub record PolicyKept (cells : List ℤ) (k : ℕ) : Type 0 where
+  pub policy : Policy
+  pub inside : k < 16
+  pub held : PolicyCells cells k policy
+  pub range : PolicyInRange policy
 
--- the stored book and condition are those of a book in range and a condition in range of it
-pub record ConditionKept (b : StoredBook) (c : StoredCondition) : Type 0 where
+-- the cells are those of a book in range, and condition k is one of it
+pub record ConditionKept (cells : List ℤ) (k : ℕ) : Type 0 where
   pub book : Book
   pub condition : Condition
-  pub bookHeld : b ≡ storedBook book
-  pub conditionHeld : c ≡ storedCondition condition
-  pub bookRange : BookInRange book
-  pub conditionRange : ConditionInRange (length (book .policies)) condition
+  pub held : BookCells cells book
+  pub range : BookInRange book
+  pub asked : conditionAt (book .conditions) k ≡ result condition
+
+-- a policy by value is that of one in range
+abbrev pub PolicyByValue : StoredPolicy → Type 0
+PolicyByValue p = (q : Policy) × (p ≡ storedPolicy q) × PolicyInRange q

@@ -1,6 +1,7 @@
 -- What taking a line into the book means, and what every book so far keeps to.
 use Prim.Native.Nat.{ℕ, _<_}
 use mathlib.Core.Bool.{Bool, true}
+use mathlib.Core.List.{List}
 use mathlib.Core.Option.{Option}
 use mathlib.Core.Path.{_≡_}
 use lib.IntN.{ℤ}
@@ -9,46 +10,57 @@ use Rattle.answers.specs.Answers.{Answer, result, refused}
 use Rattle.peal.specs.Policies.{Expression}
 use Rattle.peal.specs.declared.Operator.{Operator}
 use Rattle.peal.specs.declared.Sense.{Sense}
-use Rattle.arith.specs.Lists.{padded}
 use Rattle.book.specs.Text.{Line}
 use Rattle.book.specs.Forms.{policy, rule, condition}
 use Rattle.book.specs.Acceptance.{BookSoFar, noLine, defaultOf, defaultInRange, accept}
 use Rattle.book.specs.Books.{readLine}
 use Rattle.book.specs.Ranges.{BookInRange}
-use Rattle.book.specs.Codes.{codesOf}
-use Rattle.book.specs.Stored.{storedSoFar}
-use Rattle.book.specs.Judged.{verdictMeaning}
+use Rattle.book.specs.Codes.{HoldsCodes}
+use Rattle.book.specs.Cells.{BookCells}
+use Rattle.book.specs.Judged.{Judged, verdictMeaning}
+use Rattle.book.specs.declared.acceptance.Verdict.{Verdict}
 use Rattle.book.specs.declared.acceptance.Verdict.the-variants.{Fine}
-use Rattle.book.specs.declared.expressions.Parse.{Parse}
-use Rattle.book.specs.declared.stored.SoFar.{SoFar as StoredSoFar}
+use Rattle.book.specs.declared.storing.SoFar.{SoFar}
 use Rattle.book.specs.declared.taking.Taken.{Taken}
+
+-- what the lines so far leave for the next one, beside the cells
+unfoldable pub soFarOf : BookSoFar → SoFar
+soFarOf so = record { inside = so .inRules; opened = length (so .book .policies); asked = length (so .book .conditions) }
 
 -- what every book so far keeps to: the ranges, and a policy to add rules to where rules may follow
 pub record Bounded (so : BookSoFar) : Type 0 where
   pub range : BookInRange (so .book)
   pub some : so .inRules ≡ true → 0 < length (so .book .policies)
 
--- a taken line n is what the definition's answer is
-abbrev pub TakenAs : ℕ → Answer BookSoFar → Taken → Type 0
-TakenAs n (result so) t = (t .verdict ≡ Fine) × (t .so ≡ storedSoFar so) × Bounded so
-TakenAs n (refused k v) t = verdictMeaning n (t .verdict) noLine ≡ refused k v
+-- s and the cells are those of a bounded book so far
+pub record Holds (s : SoFar) (cells : List ℤ) (so : BookSoFar) : Type 0 where
+  pub left : s ≡ soFarOf so
+  pub held : BookCells cells (so .book)
+  pub bounded : Bounded so
 
--- what the lines so far leave is that of a bounded book
-abbrev pub Kept : StoredSoFar → Type 0
-Kept s = (so : BookSoFar) × (s ≡ storedSoFar so) × Bounded so
+abbrev pub Kept : SoFar → List ℤ → Type 0
+Kept s cells = (so : BookSoFar) × Holds s cells so
 
--- a policy, a rule, a condition and a line, taken
-abbrev pub PolicyTaken : StoredSoFar → Operator → ℤ → Bool → Taken → Type 0
-PolicyTaken s o z ranged t =
-    (n : ℕ) (so : BookSoFar) (d : Option ℤ) → s ≡ storedSoFar so → Bounded so → z ≡ defaultOf o d → ranged ≡ defaultInRange d → TakenAs n (accept n so (policy o d)) t
+-- a taken line n and the cells after it are what the definition's answer is
+abbrev pub TakenAs : ℕ → Answer BookSoFar → Taken → List ℤ → Type 0
+TakenAs n (result so) t cells = (t .verdict ≡ Fine) × Holds (t .so) cells so
+TakenAs n (refused k v) t cells = verdictMeaning n (t .verdict) noLine ≡ refused k v
 
-abbrev pub RuleTaken : StoredSoFar → ℕ → ℤ → Taken → Type 0
-RuleTaken s signal v t = (n : ℕ) (so : BookSoFar) → s ≡ storedSoFar so → Bounded so → TakenAs n (accept n so (rule signal v)) t
+-- the verdict on a rule
+abbrev pub RuleJudged : SoFar → List ℤ → ℕ → ℤ → Verdict → Type 0
+RuleJudged s cells signal w v = (so : BookSoFar) → Holds s cells so → Judged so (rule signal w) v
 
-abbrev pub ConditionTaken : StoredSoFar → Sense → ℤ → Parse → Taken → Type 0
-ConditionTaken s c t p r =
-    (n : ℕ) (so : BookSoFar) (e : Expression) → s ≡ storedSoFar so → Bounded so → p .length ≡ length (codesOf e) → p .codes ≡ padded 31 0 (codesOf e)
-    → TakenAs n (accept n so (condition c t e)) r
+-- a policy, a rule, a condition and a line, taken: the cells are `before`, and then `cells`
+abbrev pub PolicyTaken : SoFar → List ℤ → Operator → ℤ → Bool → Taken → List ℤ → Type 0
+PolicyTaken s before o z ranged t cells =
+    (n : ℕ) (so : BookSoFar) (d : Option ℤ) → Holds s before so → z ≡ defaultOf o d → ranged ≡ defaultInRange d → TakenAs n (accept n so (policy o d)) t cells
 
-abbrev pub LineTaken : StoredSoFar → Line → Taken → Type 0
-LineTaken s l t = (n : ℕ) (so : BookSoFar) → s ≡ storedSoFar so → Bounded so → TakenAs n (readLine n so l) t
+abbrev pub RuleTaken : SoFar → List ℤ → ℕ → ℤ → Taken → List ℤ → Type 0
+RuleTaken s before signal v t cells = (n : ℕ) (so : BookSoFar) → Holds s before so → TakenAs n (accept n so (rule signal v)) t cells
+
+abbrev pub ConditionTaken : SoFar → List ℤ → Sense → ℤ → List ℕ → ℕ → Taken → List ℤ → Type 0
+ConditionTaken s before c t codes count r cells =
+    (n : ℕ) (so : BookSoFar) (e : Expression) → Holds s before so → HoldsCodes codes count e → TakenAs n (accept n so (condition c t e)) r cells
+
+abbrev pub LineTaken : SoFar → List ℤ → Line → Taken → List ℤ → Type 0
+LineTaken s before l t cells = (n : ℕ) (so : BookSoFar) → Holds s before so → TakenAs n (readLine n so l) t cells

@@ -1,21 +1,21 @@
 // The acceptance of a line that has a form, in the order 3 to 6.
 // For this crate only: no other can name these functions, and each call is proved to meet its condition.
 use crate::Reason;
-use crate::expressions::Parse;
-use crate::stored::Policy;
-ghost use mathlib.Core.Bool.{true};
+use crate::cells::Cells;
+use crate::cells::count_at;
+use crate::cells::mask_at;
+use crate::cells::operator_at;
+use crate::storing::SoFar;
 ghost use mathlib.Core.List.{List};
 ghost use mathlib.Core.Path.{_≡_};
-ghost use Prim.Native.Nat.{_+_, _≤_, _<_};
-ghost use lib.Dec.{eqb};
+ghost use Prim.Native.Nat.{_≤_, _<_};
 ghost use lib.ListN.{length};
-ghost use Rattle.arith.specs.Lists.{any, padded};
-ghost use Rattle.peal.specs.Policies.{Rule, Policy as PealPolicy, Expression};
+ghost use Rattle.peal.specs.Policies.{Rule, Expression};
 ghost use Rattle.peal.specs.declared.Operator.{Operator};
-ghost use Rattle.book.specs.Codes.{codesOf};
+ghost use Rattle.book.specs.Codes.{HoldsCodes};
 ghost use Rattle.book.specs.Acceptance.{within as withinOf, roomForRule, scoreInRange, mentionsBelow};
-ghost use Rattle.book.specs.Stored.{storedPolicy};
-ghost use Rattle.book.specs.Judged.{PolicyJudged, RuleJudged, ConditionJudged};
+ghost use Rattle.book.specs.Judged.{PolicyJudged, ConditionJudged};
+ghost use Rattle.book.specs.Taken.{Kept, RuleJudged};
 
 // z is low to high.
 pub fn within(low: i32, high: i32, z: i32) -> bool
@@ -47,31 +47,14 @@ fn score_in_range(o: peal::Operator, v: i32) -> bool
     }
 }
 
-// The policy has a rule of that signal.
-fn has_signal(p: Policy, signal: u32) -> bool
-    requires { ⌜ p .count ≤ 16 ⌝ }
-    ensures { λ r. ⌜ ((q : PealPolicy) → p ≡ storedPolicy q → r ≡ any (λ (x : Rule). eqb (x .signal) signal) (q .rules)) ⌝ }
-{
-    let n = p.count;
-    let mut i = 0;
-    while i < n {
-        if p.signals[i] == signal {
-            return true;
-        }
-        i += 1;
-    }
-    false
-}
-
 // Each policy that the expression mentions is one of the first n.
-fn mentions_below(p: Parse, n: u32) -> bool
-    requires { ⌜ (p .length ≤ 31) × (n ≤ 16) ⌝ }
-    ensures { λ r. ⌜ ((e : Expression) → p .length ≡ length (codesOf e) → p .codes ≡ padded 31 0 (codesOf e) → r ≡ mentionsBelow n e) ⌝ }
+fn mentions_below(codes: &[u32; 31], count: usize, n: u32) -> bool
+    requires { ⌜ (count ≤ 31) × (n ≤ 16) ⌝ }
+    ensures { λ r. ⌜ ((e : Expression) → HoldsCodes (now (codes .entry)) count e → r ≡ mentionsBelow n e) ⌝ }
 {
-    let count = p.length;
     let mut i = 0;
     while i < count {
-        if p.codes[i] >= n + 2 {
+        if codes[i] >= n + 2 {
             return false;
         }
         i += 1;
@@ -100,19 +83,19 @@ pub fn judge_policy(asked: usize, opened: usize, ranged: bool) -> Verdict
     Verdict::Refused(Reason::OutOfRange)
 }
 
-pub fn judge_rule(inside: bool, p: Policy, signal: u32, score: i32) -> Verdict
-    requires { ⌜ p .count ≤ 16 ⌝ }
-    ensures { λ r. ⌜ RuleJudged inside p signal score r ⌝ }
+pub fn judge_rule(cells: &Cells, s: SoFar, signal: u32, score: i32) -> Verdict
+    requires { ⌜ Kept s (now cells) ⌝ }
+    ensures { λ r. ⌜ RuleJudged s (now (cells .entry)) signal score r ⌝ }
 {
-    if inside {
-        let o = p.operator;
-        let n = p.count;
-        if room_for_rule(o, n) {
+    if s.inside {
+        let k = s.opened - 1;
+        let o = operator_at(cells, k);
+        if room_for_rule(o, count_at(cells, k)) {
             if signal > 15 {
                 return Verdict::Refused(Reason::OutOfRange);
             }
             if score_in_range(o, score) {
-                if has_signal(p, signal) {
+                if signals::is_present(mask_at(cells, k), signal) {
                     return Verdict::Refused(Reason::Repeated);
                 }
                 return Verdict::Fine;
@@ -124,15 +107,21 @@ pub fn judge_rule(inside: bool, p: Policy, signal: u32, score: i32) -> Verdict
     Verdict::Refused(Reason::OutOfPlace)
 }
 
-pub fn judge_condition(asked: usize, opened: usize, threshold: i32, p: Parse) -> Verdict
-    requires { ⌜ (opened ≤ 16) × (p .length ≤ 31) ⌝ }
-    ensures { λ r. ⌜ ConditionJudged asked opened threshold p r × (r ≡ Verdict.Fine → asked < 8) ⌝ }
+pub fn judge_condition(
+    asked: usize,
+    opened: usize,
+    threshold: i32,
+    codes: &[u32; 31],
+    n: usize,
+) -> Verdict
+    requires { ⌜ (opened ≤ 16) × (n ≤ 31) ⌝ }
+    ensures { λ r. ⌜ ConditionJudged asked opened threshold (now (codes .entry)) n r × (r ≡ Verdict.Fine → asked < 8) ⌝ }
 {
     if asked >= 8 {
         return Verdict::Refused(Reason::TooMany);
     }
     if within(-200000, 200000, threshold) {
-        if mentions_below(p, opened as u32) {
+        if mentions_below(codes, n, opened as u32) {
             return Verdict::Fine;
         }
         return Verdict::Refused(Reason::OutOfRange);

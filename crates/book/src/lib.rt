@@ -1,22 +1,35 @@
 // Books of evidence policies, as text.
-// `check` and `read` are the calls, and take every byte string. The modules are this crate's own: no other crate can name
-// their functions, some of which have a condition that is proved wherever one of them is called.
+// `check` and `read` are the calls, and take every byte string. The modules are this crate's own; of their functions only those
+// that read the cells of a read book are for the crates above.
 mod acceptance;
+mod cells;
 mod expressions;
 mod lines;
 mod numbers;
 mod reading;
-mod stored;
+mod storing;
 mod taking;
 mod text;
 mod words;
 
-pub use reading::BookRead;
+ghost use mathlib.Core.Path.{_≡_};
+ghost use Prim.Native.Nat.{_<_};
+ghost use Rattle.book.specs.Meaning.{reasonNumber};
+pub use cells::Cells;
+pub use cells::Policy;
+pub use cells::code_at;
+pub use cells::count_at;
+pub use cells::default_at;
+pub use cells::length_at;
+pub use cells::mask_at;
+pub use cells::operator_at;
+pub use cells::policy_at;
+pub use cells::score_at;
+pub use cells::sense_at;
+pub use cells::signal_at;
+pub use cells::threshold_at;
 pub use reading::check;
 pub use reading::read;
-pub use stored::Book;
-pub use stored::Condition;
-pub use stored::Policy;
 
 // Why a line is refused, in the order in which a line is tried.
 pub enum Reason {
@@ -31,6 +44,20 @@ pub enum Reason {
     OutOfRange,
     // The signal is already in this policy.
     Repeated,
+}
+
+// The number that document 01 gives a reason, for the crates above.
+pub fn reason_number(reason: Reason) -> u64
+    ensures { λ r. ⌜ (r ≡ reasonNumber reason) × (r < 16) ⌝ }
+{
+    match reason {
+        Reason::TooLong => 1,
+        Reason::NoForm => 2,
+        Reason::OutOfPlace => 3,
+        Reason::TooMany => 4,
+        Reason::OutOfRange => 5,
+        Reason::Repeated => 6,
+    }
 }
 
 // Where a book is refused: the line counts from 1, and is 0 for the whole book.

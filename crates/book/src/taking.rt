@@ -6,18 +6,19 @@ use crate::acceptance::judge_condition;
 use crate::acceptance::judge_policy;
 use crate::acceptance::judge_rule;
 use crate::acceptance::within;
-use crate::expressions::Parse;
+use crate::cells::Cells;
 use crate::expressions::read_expression;
 use crate::lines::Line;
 use crate::lines::LineRead;
 use crate::lines::read_line;
-use crate::stored::Condition;
-use crate::stored::SoFar;
-use crate::stored::add_condition;
-use crate::stored::add_policy;
-use crate::stored::add_rule;
+use crate::storing::SoFar;
+use crate::storing::put_condition;
+use crate::storing::put_policy;
+use crate::storing::put_rule;
 ghost use Prim.Native.Nat.{_≤_};
 ghost use mathlib.Core.Path.{_≡_};
+ghost use Rattle.peal.specs.Policies.{Expression};
+ghost use Rattle.book.specs.Codes.{HoldsCodes};
 ghost use Rattle.book.specs.declared.acceptance.Verdict.the-variants.{Refused};
 ghost use Rattle.book.specs.Taken.{Kept, PolicyTaken, RuleTaken, ConditionTaken, LineTaken};
 
@@ -36,52 +37,70 @@ fn refused(s: SoFar, reason: Reason) -> Taken
     }
 }
 
-fn take_policy(s: SoFar, o: peal::Operator, default: i32, ranged: bool) -> Taken
-    ensures { λ r. ⌜ PolicyTaken s o default ranged r ⌝ }
+fn take_policy(cells: &mut Cells, s: SoFar, o: peal::Operator, default: i32, ranged: bool) -> Taken
+    ensures { λ r. ⌜ PolicyTaken s (now (cells .entry)) o default ranged r (now (cells .exit)) ⌝ }
 {
-    let v = judge_policy(s.asked, s.opened, ranged);
-    match v {
-        Verdict::Fine => Taken {
-            verdict: Verdict::Fine,
-            so: add_policy(s, o, default),
-        },
-        Verdict::Refused(r) => refused(s, r),
-    }
-}
-
-fn take_rule(s: SoFar, signal: u32, score: i32) -> Taken
-    requires { ⌜ Kept s ⌝ }
-    ensures { λ r. ⌜ RuleTaken s signal score r ⌝ }
-{
-    let p = s.policy;
-    let v = judge_rule(s.inside, p, signal, score);
-    match v {
-        Verdict::Fine => Taken {
-            verdict: Verdict::Fine,
-            so: add_rule(s, signal, score),
-        },
-        Verdict::Refused(r) => refused(s, r),
-    }
-}
-
-fn take_condition(s: SoFar, sense: peal::Sense, threshold: i32, p: Parse) -> Taken
-    requires { ⌜ Kept s × (p .length ≤ 31) ⌝ }
-    ensures { λ r. ⌜ ConditionTaken s sense threshold p r ⌝ }
-{
-    let v = judge_condition(s.asked, s.opened, threshold, p);
+    let opened = s.opened;
+    let asked = s.asked;
+    let v = judge_policy(asked, opened, ranged);
     match v {
         Verdict::Fine => {
-            let count = p.length;
-            let codes = p.codes;
-            let c = Condition {
-                sense: sense,
-                threshold: threshold,
-                length: count,
-                codes: codes,
-            };
+            put_policy(cells, opened, o, default);
             Taken {
                 verdict: Verdict::Fine,
-                so: add_condition(s, c),
+                so: SoFar {
+                    inside: true,
+                    opened: opened + 1,
+                    asked: asked,
+                },
+            }
+        }
+        Verdict::Refused(r) => refused(s, r),
+    }
+}
+
+fn take_rule(cells: &mut Cells, s: SoFar, signal: u32, score: i32) -> Taken
+    requires { ⌜ Kept s (now cells) ⌝ }
+    ensures { λ r. ⌜ RuleTaken s (now (cells .entry)) signal score r (now (cells .exit)) ⌝ }
+{
+    let v = judge_rule(cells, s, signal, score);
+    match v {
+        Verdict::Fine => {
+            put_rule(cells, s.opened - 1, signal, score);
+            Taken {
+                verdict: Verdict::Fine,
+                so: s,
+            }
+        }
+        Verdict::Refused(r) => refused(s, r),
+    }
+}
+
+// The first n codes are those of the condition's expression.
+fn take_condition(
+    cells: &mut Cells,
+    s: SoFar,
+    sense: peal::Sense,
+    threshold: i32,
+    codes: &[u32; 31],
+    n: usize,
+) -> Taken
+    requires { ⌜ Kept s (now cells) × (n ≤ 31) × ((e : Expression) × HoldsCodes (now codes) n e) ⌝ }
+    ensures { λ r. ⌜ ConditionTaken s (now (cells .entry)) sense threshold (now (codes .entry)) n r (now (cells .exit)) ⌝ }
+{
+    let opened = s.opened;
+    let asked = s.asked;
+    let v = judge_condition(asked, opened, threshold, codes, n);
+    match v {
+        Verdict::Fine => {
+            put_condition(cells, asked, sense, threshold, codes, n);
+            Taken {
+                verdict: Verdict::Fine,
+                so: SoFar {
+                    inside: false,
+                    opened: opened,
+                    asked: asked + 1,
+                },
             }
         }
         Verdict::Refused(r) => refused(s, r),
@@ -89,9 +108,9 @@ fn take_condition(s: SoFar, sense: peal::Sense, threshold: i32, p: Parse) -> Tak
 }
 
 // A line; `ended` tells whether byte 10 ends it.
-pub fn take_line(s: SoFar, line: &[u8], ended: bool) -> Taken
-    requires { ⌜ Kept s ⌝ }
-    ensures { λ r. ⌜ LineTaken s (record { text = now (line .entry); ended = ended }) r ⌝ }
+pub fn take_line(cells: &mut Cells, s: SoFar, line: &[u8], ended: bool) -> Taken
+    requires { ⌜ Kept s (now cells) ⌝ }
+    ensures { λ r. ⌜ LineTaken s (now (cells .entry)) (record { text = now (line .entry); ended = ended }) r (now (cells .exit)) ⌝ }
 {
     if 128 < line.len() {
         return refused(s, Reason::TooLong);
@@ -104,18 +123,20 @@ pub fn take_line(s: SoFar, line: &[u8], ended: bool) -> Taken
     };
     match l {
         Line::Policy { operator, default } => {
-            take_policy(s, operator, default, within(-10000, 10000, default))
+            let ranged = within(-10000, 10000, default);
+            take_policy(cells, s, operator, default, ranged)
         }
-        Line::BarePolicy { operator } => take_policy(s, operator, 0, true),
-        Line::Rule { signal, score } => take_rule(s, signal, score),
+        Line::BarePolicy { operator } => take_policy(cells, s, operator, 0, true),
+        Line::Rule { signal, score } => take_rule(cells, s, signal, score),
         Line::Condition {
             sense,
             threshold,
             start,
         } => {
-            let p = read_expression(line, start);
+            let mut codes = [0u32; 31];
+            let p = read_expression(line, start, &mut codes);
             if p.ok {
-                take_condition(s, sense, threshold, p)
+                take_condition(cells, s, sense, threshold, &codes, p.length)
             } else {
                 refused(s, Reason::NoForm)
             }

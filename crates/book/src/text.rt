@@ -13,8 +13,25 @@ pub fn next_byte(s: &[u8], at: usize, x: u8) -> usize
     requires { ⌜ at ≤ length (now s) ⌝ }
     ensures { λ r. ⌜ r ≡ at + upTo x (drop at (now (s .entry))) ⌝ }
 {
+    let n = s.len();
     let mut i = at;
-    while i < s.len() {
+    // Four at a time: the test of the end costs as much as the byte's.
+    while i + 4 <= n {
+        if s[i] == x {
+            return i;
+        }
+        if s[i + 1] == x {
+            return i + 1;
+        }
+        if s[i + 2] == x {
+            return i + 2;
+        }
+        if s[i + 3] == x {
+            return i + 3;
+        }
+        i += 4;
+    }
+    while i < n {
         if s[i] == x {
             return i;
         }

@@ -15,15 +15,11 @@ use Rattle.peal.specs.Policies.{Policy, MinMax, smaller, Expression, Condition,
 use Rattle.peal.specs.Lines.{lines}
 use Rattle.peal.specs.Translation.{joinOf, maskOf, listed, translated}
 use Rattle.peal.specs.declared.Sense.{Sense}
-use Rattle.book.specs.Codes.{codeOf}
+use Rattle.book.specs.Codes.{codeOf, codesOf}
 use Rattle.book.specs.Ranges.{PolicyInRange, ConditionKept}
-use Rattle.book.specs.Stored.{storedPolicy, noPolicy}
-use Rattle.book.specs.declared.stored.Policy.{Policy as StoredPolicy}
-use Rattle.book.specs.declared.stored.Condition.{Condition as StoredCondition}
-use Rattle.book.specs.declared.stored.Book.{Book as StoredBook}
 use Rattle.book.proofs.RangeLaws.{policy-in-range}
-use Rattle.book.proofs.StoredLaws.{opened-is, policy-at}
-use Rattle.book.proofs.StoredNodes.{nodeOf, join-code, value-code, sense-is, threshold-is, nodes-are, nodes-few, code-at, mention-below}
+use Rattle.book.proofs.CodeLaws.{nodeOf, join-code, value-code, codes-nodes, code-node, mention-below}
+use Rattle.book.proofs.CellLaws.{condition-held, condition-range, same-codes, mention-held, mention-kept}
 use Rattle.compiler.specs.Planning.{ThresholdFits}
 use Rattle.compiler.specs.Nodes.{linesIn, listedNode, nodesOf, nodeAt, LinesKept}
 use Rattle.compiler.proofs.MentionLaws.{kept-few}
@@ -45,22 +41,40 @@ module _ (b : Book) (c : Condition) where
   unfolding nodesOf translated
   nodes-listed = listed-tree (c .expression)
 
-module _ (b : StoredBook) (c : StoredCondition) (k : ConditionKept b c) where
+module _ {cells : List ℤ} {n : ℕ} (k : ConditionKept cells n) where
   abbrev nodes : List ListedNode
   nodes = nodesOf (k .book) (k .condition)
 
-  pub nodes-count : length nodes ≡ c .length
+  -- how many codes there are, and code i
+  abbrev pub size : ℕ
+  size = length (codesOf (k .condition .expression))
+
+  abbrev pub codeAt : ℕ → ℕ
+  codeAt i = getD (codesOf (k .condition .expression)) i 0
+
+  -- whatever the cells are kept as, they have as many codes
+  pub same-size : (h : ConditionKept cells n) → size ≡ length (codesOf (h .condition .expression))
+  same-size h = same-codes (condition-held k) (condition-held h)
+
+  pub nodes-count : length nodes ≡ size
   nodes-count =
       ap length (nodes-listed (k .book) (k .condition)) ∙ length-map (postfix (k .condition .expression)) (listedNode (k .book) (k .condition))
-      ∙ sym (nodes-are c (k .condition) (k .conditionHeld))
+      ∙ sym (codes-nodes (k .condition .expression))
 
-  pub kept-length : c .length ≤ 31
-  kept-length = nodes-few c (k .condition) (k .conditionHeld) (k .conditionRange .mentionsRoom)
+  pub node-here : (i : ℕ) → i < size → drop i nodes ≡ nodeAt (k .book) (k .condition) i ∷ drop (i + 1) nodes
+  unfolding nodeAt
+  node-here i h =
+      let f = listedNode (k .book) (k .condition) in
+      drop-cons nodes i (f (joining smaller)) (omega (arith, nodes-count))
+      ∙ ap₂ (λ (x : ListedNode) (m : ℕ). x ∷ drop m nodes)
+      (ap (λ (l : List ListedNode). getD l i (f (joining smaller))) (nodes-listed (k .book) (k .condition)) ∙ List·getD-map f (postfix (k .condition .expression)) i (joining smaller))
+      (sym (add-one i))
 
-  module _ (i : ℕ) (h : i < c .length) where
-    abbrev code : ℕ
-    code = getD (c .codes) i 0
+  pub threshold-fits : (t : ℤ) → t ≡ k .condition .threshold → ThresholdFits t
+  threshold-fits t same = subst ThresholdFits (sym same) (condition-range k .threshold)
 
+  -- a node by its code
+  module _ (i code : ℕ) (told : code ≡ codeAt i) where
     abbrev node : Node MinMax ℕ
     node = nodeOf (k .condition .expression) i
 
@@ -68,87 +82,68 @@ module _ (b : StoredBook) (c : StoredCondition) (k : ConditionKept b c) where
     thisNode = nodeAt (k .book) (k .condition) i
 
     code-of : code ≡ codeOf node
-    code-of = code-at c (k .condition) (k .conditionHeld) i h
+    code-of = told ∙ code-node (k .condition .expression) i
 
-    pub node-here : drop i nodes ≡ thisNode ∷ drop (i + 1) nodes
-    unfolding nodeAt
-    node-here =
-        let f = listedNode (k .book) (k .condition) in
-        drop-cons nodes i (f (joining smaller)) (omega (arith, nodes-count))
-        ∙ ap₂ (λ (x : ListedNode) (n : ℕ). x ∷ drop n nodes)
-        (ap (λ (l : List ListedNode). getD l i (f (joining smaller))) (nodes-listed (k .book) (k .condition)) ∙ List·getD-map f (postfix (k .condition .expression)) i (joining smaller))
-        (sym (add-one i))
-
-    pub join-here : code < 2 → (m : MinMax) × (code ≡ codeOf (joining m)) × (thisNode ≡ joining (joinOf (c .sense) m))
+    pub join-here : code < 2 → (s : Sense) → s ≡ k .condition .sense → (m : MinMax) × (code ≡ codeOf (joining m)) × (thisNode ≡ joining (joinOf s m))
     unfolding nodeAt listedNode
-    join-here l =
+    join-here l s same =
         let j = join-code node (omega (arith, code-of)) in (
           j .0,
           code-of ∙ ap codeOf (j .1),
-          ap (listedNode (k .book) (k .condition)) (j .1) ∙ ap (λ (s : Sense). joining (joinOf s (j .0))) (sym (sense-is c (k .condition) (k .conditionHeld))),
+          ap (listedNode (k .book) (k .condition)) (j .1) ∙ ap (λ (x : Sense). joining (joinOf x (j .0))) (sym same),
         )
 
     pub no-lines : code < 2 → linesIn thisNode ≡ 0
     unfolding linesIn
-    no-lines l = ap linesIn (join-here l .2)
+    no-lines l = ap linesIn (join-here l (k .condition .sense) refl .2)
 
     -- at a mention
     module _ (l : 2 ≤ code) where
       abbrev mentioned : Policy
       mentioned = policyAt (k .book .policies) (code - 2)
 
-      mention-inside : code - 2 < b .opened
-      mention-inside =
-          omega (arith, opened-is b (k .book) (k .bookHeld), mention-below c (k .condition) (k .conditionHeld) i h (length (k .book .policies)) (k .conditionRange .mentions))
+      pub mention-here : (s : Sense) (t : ℤ) → s ≡ k .condition .sense → t ≡ k .condition .threshold → thisNode ≡ value (listed s t mentioned)
+      unfolding nodeAt listedNode
+      mention-here s t e f =
+          let d = k .condition in
+          ap (listedNode (k .book) d) (value-code node (omega (arith, code-of)))
+          ∙ ap (λ (m : ℕ). value (listed (d .sense) (d .threshold) (policyAt (k .book .policies) (m - 2)))) (sym code-of)
+          ∙ ap₂ (λ (x : Sense) (y : ℤ). value (listed x y mentioned)) (sym e) (sym f)
 
-      pub mention-small : code - 2 < 16
-      mention-small = omega (arith, mention-inside, opened-is b (k .book) (k .bookHeld), k .bookRange .policiesRoom)
+      pub mention-lines : (t : ℤ) → t ≡ k .condition .threshold → linesIn thisNode ≡ length (lines (mentioned .operator) t (mentioned .rules))
+      unfolding linesIn listed
+      mention-lines t e = ap linesIn (mention-here (k .condition .sense) t refl e) ∙ length-map (lines (mentioned .operator) t (mentioned .rules)) maskOf
 
-      pub mention-held : (d : StoredPolicy) → getD (b .policies) (code - 2) d ≡ storedPolicy mentioned
-      mention-held d = policy-at b (k .book) (k .bookHeld) (code - 2) d mention-inside
+      pub mention-range : i < size → PolicyInRange mentioned
+      mention-range h =
+          policy-in-range (k .book) (k .range) (code - 2) (omega (arith, mention-below (k .condition .expression) i (length (k .book .policies)) h (condition-range k .mentions)))
 
-      pub mention-range : PolicyInRange mentioned
-      mention-range = policy-in-range (k .book) (k .bookRange) (code - 2) (omega (arith, mention-inside, opened-is b (k .book) (k .bookHeld)))
+      unfoldable pub lines-kept : i < size → (t : ℤ) → t ≡ k .condition .threshold → (count : ℕ) → count ≡ linesIn thisNode → LinesKept cells (code - 2) t count
+      lines-kept h t e count f =
+          record {
+            policy = mentioned;
+            inside = mention-kept k i h code told l .inside;
+            held = mention-held k i h code told l;
+            range = mention-range h;
+            fits = threshold-fits t e;
+            counted = f ∙ mention-lines t e;
+          }
 
-      -- under the threshold
-      module _ (t : ℤ) (same : t ≡ c .threshold) where
-        pub threshold-fits : ThresholdFits t
-        threshold-fits = subst ThresholdFits (sym (same ∙ threshold-is c (k .condition) (k .conditionHeld))) (k .conditionRange .threshold)
+  pub lines-few : (i : ℕ) → i < size → linesIn (nodeAt (k .book) (k .condition) i) ≤ 65536
+  lines-few i h = ⊎-elim mention joined (le-or-lt 2 (codeAt i))
+    where
+      mention : 2 ≤ codeAt i → linesIn (nodeAt (k .book) (k .condition) i) ≤ 65536
+      mention l = kept-few (lines-kept i (codeAt i) refl l h (k .condition .threshold) refl _ refl)
 
-        pub mention-here : thisNode ≡ value (listed (c .sense) t mentioned)
-        unfolding nodeAt listedNode
-        mention-here =
-            let d = k .condition in
-            ap (listedNode (k .book) d) (value-code node (omega (arith, code-of)))
-            ∙ ap (λ (n : ℕ). value (listed (d .sense) (d .threshold) (policyAt (k .book .policies) (n - 2)))) (sym code-of)
-            ∙ ap₂ (λ (s : Sense) (x : ℤ). value (listed s x mentioned)) (sym (sense-is c d (k .conditionHeld))) (sym (same ∙ threshold-is c d (k .conditionHeld)))
-
-        pub mention-lines : linesIn thisNode ≡ length (lines (mentioned .operator) t (mentioned .rules))
-        unfolding linesIn listed
-        mention-lines = ap linesIn mention-here ∙ length-map (lines (mentioned .operator) t (mentioned .rules)) maskOf
-
-        unfoldable pub lines-kept : (d : StoredPolicy) (count : ℕ) → count ≡ linesIn thisNode → LinesKept (getD (b .policies) (code - 2) d) t count
-        lines-kept d count e = record { policy = mentioned; held = mention-held d; range = mention-range; fits = threshold-fits; counted = e ∙ mention-lines }
-
-    pub lines-few : linesIn thisNode ≤ 65536
-    lines-few = ⊎-elim mention joined (le-or-lt 2 code)
-      where
-        mention : 2 ≤ code → linesIn thisNode ≤ 65536
-        mention l = kept-few (getD (b .policies) (code - 2) noPolicy) (c .threshold) (linesIn thisNode) (lines-kept l (c .threshold) refl noPolicy (linesIn thisNode) refl)
-
-        joined : code < 2 → linesIn thisNode ≤ 65536
-        joined l = omega (arith, no-lines l)
+      joined : codeAt i < 2 → linesIn (nodeAt (k .book) (k .condition) i) ≤ 65536
+      joined l = omega (arith, no-lines i (codeAt i) refl l)
 
   -- nodes with the same code have as many lines
-  pub same-lines : (i j : ℕ) → i < c .length → j < c .length → getD (c .codes) j 0 ≡ getD (c .codes) i 0
-      → linesIn (nodeAt (k .book) (k .condition) j) ≡ linesIn (nodeAt (k .book) (k .condition) i)
-  same-lines i j h g e = ⊎-elim mention joined (le-or-lt 2 (getD (c .codes) i 0))
+  pub same-lines : (i j code : ℕ) → code ≡ codeAt i → code ≡ codeAt j → linesIn (nodeAt (k .book) (k .condition) j) ≡ linesIn (nodeAt (k .book) (k .condition) i)
+  same-lines i j code e f = ⊎-elim mention joined (le-or-lt 2 code)
     where
-      counted : ℕ → ℕ
-      counted n = let p = policyAt (k .book .policies) (n - 2) in length (lines (p .operator) (c .threshold) (p .rules))
+      mention : 2 ≤ code → linesIn (nodeAt (k .book) (k .condition) j) ≡ linesIn (nodeAt (k .book) (k .condition) i)
+      mention l = mention-lines j code f l (k .condition .threshold) refl ∙ sym (mention-lines i code e l (k .condition .threshold) refl)
 
-      mention : 2 ≤ getD (c .codes) i 0 → linesIn (nodeAt (k .book) (k .condition) j) ≡ linesIn (nodeAt (k .book) (k .condition) i)
-      mention l = mention-lines j g (omega (arith, e)) (c .threshold) refl ∙ ap counted e ∙ sym (mention-lines i h l (c .threshold) refl)
-
-      joined : getD (c .codes) i 0 < 2 → linesIn (nodeAt (k .book) (k .condition) j) ≡ linesIn (nodeAt (k .book) (k .condition) i)
-      joined l = no-lines j g (omega (arith, e)) ∙ sym (no-lines i h l)
+      joined : code < 2 → linesIn (nodeAt (k .book) (k .condition) j) ≡ linesIn (nodeAt (k .book) (k .condition) i)
+      joined l = no-lines j code f l ∙ sym (no-lines i code e l)

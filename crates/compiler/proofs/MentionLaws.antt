@@ -1,5 +1,5 @@
 -- What the record of a join or a mention is made of, and the lines behind a mention.
-use Prim.Native.Nat.{ℕ, suc, _+_, _-_, _*_, _^_, _≤_, _<_}
+use Prim.Native.Nat.{ℕ, suc, _+_, _-_, _*_, _^_, _≤_}
 use mathlib.Core.Bool.{Bool, true, false, cond}
 use mathlib.Core.List.{List, [], _∷_, map}
 use mathlib.Core.Path.{_≡_, refl, sym, ap, ap₂, _∙_}
@@ -7,7 +7,7 @@ use native.Mathlib.Nat.{pow-le-pow-right}
 use native.Mathlib.Omega.{arith}
 use lib.Dec.{ltb}
 use lib.IntN.{ℤ}
-use lib.ListN.{length, getD, drop, length-map, drop-of-length-le}
+use lib.ListN.{length, length-map}
 use borrow.Author.Tests.{eq-eqb, ne-eqb}
 use mir.Val.{boolByte}
 use Rattle.arith.specs.Trees.{value, joining}
@@ -15,17 +15,15 @@ use Rattle.signals.specs.Sets.{setOf}
 use Rattle.layout.specs.Records.{Record, bit, lineKind, joinKind, policyKind}
 use Rattle.layout.specs.Judgement.{ifAny}
 use Rattle.layout.specs.Nodes.{lineRecords}
-use Rattle.peal.specs.Policies.{Policy, MinMax, smaller, larger}
+use Rattle.peal.specs.Policies.{MinMax, smaller, larger}
 use Rattle.peal.specs.Lines.{lines}
 use Rattle.peal.specs.Translation.{joinOf, quiet, turned, maskOf, listed}
 use Rattle.peal.specs.declared.Sense.{Sense}
 use Rattle.peal.specs.declared.Sense.the-variants.{Above, AtMost}
 use Rattle.peal.proofs.LineLaws.{lines-are-few}
 use Rattle.book.specs.Codes.{codeOf}
-use Rattle.book.specs.Stored.{storedPolicy}
-use Rattle.book.specs.declared.stored.Policy.{Policy as StoredPolicy}
+use Rattle.book.specs.Ranges.{PolicyKept}
 use Rattle.book.proofs.RangeLaws.{rules-at-most}
-use Rattle.book.proofs.StoredRules.{rules-before, count-is, signal-at}
 use Rattle.compiler.specs.Putting.{putRecord, putRecords, lineAt, linesUpTo}
 use Rattle.compiler.specs.Nodes.{oneNode, LinesKept}
 use Rattle.compiler.proofs.NodeLaws.{if-any}
@@ -53,21 +51,7 @@ kind-of-bytes true false = refl
 kind-of-bytes false true = refl
 kind-of-bytes false false = refl
 
--- ---- the mask of a policy, from its last rule on
-
-module _ (p : StoredPolicy) (q : Policy) (e : p ≡ storedPolicy q) where
-  pub mask-start : 0 ≡ maskOf (drop (p .count) (q .rules))
-  unfolding maskOf setOf
-  mask-start = rw (drop-of-length-le (q .rules) {i = p .count} (omega (arith, count-is p q e)))
-
-  pub mask-more : (i : ℕ) → 0 < i → i ≤ p .count → maskOf (drop i (q .rules)) + setOf (getD (p .signals) (i - 1) 0 ∷ []) ≡ maskOf (drop (i - 1) (q .rules))
-  unfolding maskOf setOf
-  mask-more i a b =
-      omega (
-        arith,
-        ap maskOf (rules-before (q .rules) i a (omega (arith, count-is p q e))),
-        ap (λ (s : ℕ). 2 ^ s) (signal-at p q e (i - 1) (omega arith)),
-      )
+-- ---- the mask of one signal
 
 pub bit-small : (s : ℕ) → s ≤ 15 → setOf (s ∷ []) ≤ 2 ^ 15
 unfolding setOf
@@ -88,34 +72,37 @@ lines-up-to last n (m ∷ ms) h =
 
 -- ---- a mention, from the numbers that the code has
 
-module _ (p : StoredPolicy) (t : ℤ) (count : ℕ) (k : LinesKept p t count) where
+module _ {cells : List ℤ} {n : ℕ} {t : ℤ} {count : ℕ} (k : LinesKept cells n t count) where
+  pub policy-kept : PolicyKept cells n
+  policy-kept = record { policy = k .policy; inside = k .inside; held = k .held; range = k .range }
+
   pub kept-few : count ≤ 65536
   kept-few = omega (arith, k .counted, lines-are-few (k .policy .operator) t (k .policy .rules) .ofSixteen (rules-at-most (k .policy) (k .range)))
 
   abbrev masks : ℤ → List ℕ
   masks x = map maskOf (lines (k .policy .operator) x (k .policy .rules))
 
-  module _ (s : Sense) (n : ℕ) (more : Bool) where
+  module _ (s : Sense) (at : ℕ) (more : Bool) where
     -- the record of the mention, under threshold x, where its lines are so many
     abbrev first : ℤ → ℕ → Record
     first x size =
         record {
           kind = policyKind (quiet s x (k .policy)) (turned s (k .policy .operator));
           mask = maskOf (k .policy .rules);
-          lines = cond (ltb 0 size) (n + 1) 0;
-          next = cond more (n + 1 + size) 0;
+          lines = cond (ltb 0 size) (at + 1) 0;
+          next = cond more (at + 1 + size) 0;
         }
 
-    first-is : first t (length (masks t)) ∷ lineRecords (n + 1) (masks t) ≡ oneNode n more (value (listed s t (k .policy)))
+    first-is : first t (length (masks t)) ∷ lineRecords (at + 1) (masks t) ≡ oneNode at more (value (listed s t (k .policy)))
     unfolding oneNode listed
-    first-is = rw (if-any (masks t) (n + 1))
+    first-is = rw (if-any (masks t) (at + 1))
 
     pub put-mention : (w : List ℕ) (x : ℤ) → x ≡ t → (r : Record) → r ≡ first x count
-        → putRecords (putRecord w n r) (n + 1) (linesUpTo (n + count) (n + 1) (masks x)) ≡ putRecords w n (oneNode n more (value (listed s t (k .policy))))
+        → putRecords (putRecord w at r) (at + 1) (linesUpTo (at + count) (at + 1) (masks x)) ≡ putRecords w at (oneNode at more (value (listed s t (k .policy))))
     unfolding putRecords
     put-mention w x e r f =
         let size = k .counted ∙ sym (length-map (lines (k .policy .operator) t (k .policy .rules)) maskOf) in
-        ap (λ (y : Record). putRecords (putRecord w n y) (n + 1) (linesUpTo (n + count) (n + 1) (masks x))) f
-        ∙ ap₂ (λ (y : ℤ) (m : ℕ). putRecords (putRecord w n (first y m)) (n + 1) (linesUpTo (n + m) (n + 1) (masks y))) e size
-        ∙ ap (putRecords (putRecord w n (first t (length (masks t)))) (n + 1)) (lines-up-to (n + length (masks t)) (n + 1) (masks t) (omega arith))
-        ∙ ap (putRecords w n) first-is
+        ap (λ (y : Record). putRecords (putRecord w at y) (at + 1) (linesUpTo (at + count) (at + 1) (masks x))) f
+        ∙ ap₂ (λ (y : ℤ) (m : ℕ). putRecords (putRecord w at (first y m)) (at + 1) (linesUpTo (at + m) (at + 1) (masks y))) e size
+        ∙ ap (putRecords (putRecord w at (first t (length (masks t)))) (at + 1)) (lines-up-to (at + length (masks t)) (at + 1) (masks t) (omega arith))
+        ∙ ap (putRecords w at) first-is

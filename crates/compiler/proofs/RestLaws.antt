@@ -18,7 +18,7 @@ use Rattle.peal.specs.declared.Operator.{Operator}
 use Rattle.peal.specs.declared.Operator.the-variants.{Min, Max, Sum, Mul}
 use Rattle.peal.proofs.HavingLaws.{product-natural}
 use Rattle.book.specs.Acceptance.{within, scoreInRange}
-use Rattle.book.specs.declared.stored.Policy.{Policy as StoredPolicy}
+use Rattle.book.specs.declared.cells.Policy.{Policy as StoredPolicy}
 use Rattle.book.proofs.StoredRules.{count-is}
 use Rattle.book.proofs.ScoreSizes.{score-mag, two-mag, InScore, InRange, Room}
 use Rattle.compiler.specs.Worth.{start, worth}

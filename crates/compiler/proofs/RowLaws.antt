@@ -27,13 +27,13 @@ module _ (plan : List ℤ) (k : ℕ) (limit rest score bit : ℤ) where
   abbrev three : List ℤ
   three = set two (k * 4 + 2) score
 
-  pub one-length : length one ≡ length plan
+  one-length : length one ≡ length plan
   one-length = length-set plan (k * 4) limit
 
-  pub two-length : length two ≡ length plan
+  two-length : length two ≡ length plan
   two-length = length-set one (k * 4 + 1) rest ∙ one-length
 
-  pub three-length : length three ≡ length plan
+  three-length : length three ≡ length plan
   three-length = length-set two (k * 4 + 2) score ∙ two-length
 
   pub row-length : length (withRow plan k limit rest score bit) ≡ length plan

@@ -5,11 +5,12 @@ use mathlib.Core.List.{List, [], _∷_, _++_, map, append-assoc, append-nil, map
 use mathlib.Core.Path.{_≡_, refl, sym, ap, ap₂, subst, _∙_}
 use native.Mathlib.Nat.{le-trans, pow-suc, pow-le-pow-right}
 use native.Mathlib.Omega.{arith}
-use lib.IntN.{ℤ, pos, negsuc, negℤ, +ℤ-idr}
+use lib.Dec.{T}
+use lib.IntN.{ℤ, pos, negsuc, negℤ, natAbs, +ℤ-idr}
 use lib.ListN.{length, getD, length-append}
-use lib.Signed.{mag, leZ}
-use mir.Syntax.{w64}
-use mir.Val.{SFits}
+use lib.Signed.{mag, leZ, nonNeg}
+use mir.Syntax.{w32}
+use mir.Val.{Fits}
 use Rattle.arith.specs.Lists.{Each}
 use Rattle.arith.proofs.Order.{leZ-trans}
 use Rattle.arith.proofs.Tests.{and-left, and-right, clash}
@@ -18,18 +19,20 @@ use Rattle.signals.specs.Sets.{setOf}
 use Rattle.peal.specs.Policies.{Rule, Policy, smaller, larger, noRule}
 use Rattle.peal.specs.Score.{ofTwo}
 use Rattle.peal.specs.Having.{has}
+use Rattle.peal.specs.Lines.{lines}
 use Rattle.peal.specs.Search.{foundFrom, foundSets}
 use Rattle.peal.specs.Translation.{maskOf}
 use Rattle.peal.specs.Combining.{combinedOf}
 use Rattle.peal.specs.declared.Operator.{Operator}
 use Rattle.peal.specs.declared.Operator.the-variants.{Min, Max, Sum, Mul}
+use Rattle.peal.proofs.LineLaws.{search-finds-lines}
 use Rattle.book.specs.Acceptance.{within, scoreInRange}
-use Rattle.peal.proofs.CombiningLaws.{small-fits}
+use Rattle.book.specs.Ranges.{PolicyInRange}
 use Rattle.book.proofs.ScoreSizes.{InScore, range-fits}
 use Rattle.compiler.specs.Worth.{start, worth, limitOf, reachedOf}
+use Rattle.compiler.specs.RankOrder.{withRules, inRankOrder}
 use Rattle.compiler.specs.Planning.{restOf, nextRule, RulesInRange, Row, PlanFor}
-use Rattle.compiler.specs.Searching.{IsTaken, Searching, found}
-use Rattle.compiler.specs.declared.searching.Taken.{Taken}
+use Rattle.compiler.specs.Searching.{Searching, Masked, found}
 use Rattle.compiler.proofs.WorthLaws.{worth-has, worth-append}
 use Rattle.compiler.proofs.MentionLaws.{bit-small}
 use Rattle.compiler.proofs.RestLaws.{no-rest, all-rest, more-rest, rest-length, worth-small}
@@ -120,30 +123,27 @@ range-taken o X Y h =
 
 -- ---- what the plan tells of rules that are taken and still to come
 
-module _ {op : Operator} {plan : List ℤ} {x : Taken} {left : ℕ} {q : Policy} {t : ℤ} {X : List Rule} (h : Searching op plan x left q t X) where
+module _ {op : Operator} {plan : List ℤ} {count : ℕ} {value : ℤ} {left : ℕ} {q : Policy} {t : ℤ} {X : List Rule} (h : Searching op plan count value left q t X) where
   abbrev o : Operator
   o = q .operator
 
   abbrev all : List Rule
   all = X ++ restOf left (q .rules)
 
-  all-count : x .count + left ≡ length all
+  all-count : count + left ≡ length all
   all-count = omega (arith, h .taken .count, length-append X (restOf left (q .rules)), rest-length (q .rules) left (omega (arith, h .inside)))
 
-  pub taken-few : x .count + left ≤ 16
+  pub taken-few : count + left ≤ 16
   taken-few = omega (arith, all-count, h .range .few)
 
   taken-range : RulesInRange o X
   taken-range = range-taken o X (restOf left (q .rules)) (h .range)
 
-  pub taken-small : mag (x .value) ≤ 10 ^ 16
+  pub taken-small : mag value ≤ 10 ^ 16
   taken-small = subst (λ (z : ℤ). mag z ≤ 10 ^ 16) (sym (h .taken .value)) (worth-small o X taken-range)
 
-  pub taken-fits : SFits w64 (x .value)
-  taken-fits = small-fits (x .value) taken-small
-
   -- the same, with no rule still to come
-  pub none-coming : Searching op plan x 0 q t X
+  pub none-coming : Searching op plan count value 0 q t X
   none-coming =
       record {
         planned = h .planned;
@@ -161,11 +161,11 @@ module _ {op : Operator} {plan : List ℤ} {x : Taken} {left : ℕ} {q : Policy}
       ∙ worth-has o t Y (range-fits o Y (r .scores) (r .room)) (h .planned .fits)
 
   -- the rules taken
-  pub taken-tells : {l v : ℤ} → l ≡ getD plan (x .count * 4) (pos 0) → v ≡ x .value → reachedOf op l v ≡ has o t X
-  taken-tells f g = tells X taken-range (x .count) (h .taken .count) (omega (arith, h .inside, h .taken .count)) f (g ∙ h .taken .value)
+  pub taken-tells : {l v : ℤ} → l ≡ getD plan (count * 4) (pos 0) → v ≡ value → reachedOf op l v ≡ has o t X
+  taken-tells f g = tells X taken-range count (h .taken .count) (omega (arith, h .inside, h .taken .count)) f (g ∙ h .taken .value)
 
   -- these and the rules still to come
-  module _ {v w : ℤ} (g : v ≡ x .value) (e : w ≡ getD plan (left * 4 + 1) (pos 0)) where
+  module _ {v w : ℤ} (g : v ≡ value) (e : w ≡ getD plan (left * 4 + 1) (pos 0)) where
     all-worth : combinedOf op v w ≡ worth o all
     all-worth =
         ap (λ (p : Operator). combinedOf p v w) (h .planned .operator)
@@ -175,8 +175,8 @@ module _ {op : Operator} {plan : List ℤ} {x : Taken} {left : ℕ} {q : Policy}
     pub all-small : mag (combinedOf op v w) ≤ 10 ^ 16
     all-small = subst (λ (z : ℤ). mag z ≤ 10 ^ 16) (sym all-worth) (worth-small o all (h .range))
 
-    pub all-tell : {l z : ℤ} → l ≡ getD plan ((x .count + left) * 4) (pos 0) → z ≡ combinedOf op v w → reachedOf op l z ≡ has o t all
-    all-tell f k = tells all (h .range) (x .count + left) all-count (omega (arith, h .inside, h .taken .count)) f (k ∙ all-worth)
+    pub all-tell : {l z : ℤ} → l ≡ getD plan ((count + left) * 4) (pos 0) → z ≡ combinedOf op v w → reachedOf op l z ≡ has o t all
+    all-tell f k = tells all (h .range) (count + left) all-count (omega (arith, h .inside, h .taken .count)) f (k ∙ all-worth)
 
 -- ---- the search, by whether the property is there
 
@@ -224,34 +224,44 @@ from-few property X (r ∷ rest) = go (from-few property (X ++ (r ∷ [])) rest)
     go m n false true = omega (arith, doubled, length-append with-it without)
     go m n false false = omega arith
 
+pub found-few : {op : Operator} {plan : List ℤ} {count : ℕ} {value : ℤ} {left : ℕ} {q : Policy} {t : ℤ} {X : List Rule} → Searching op plan count value left q t X
+    → length (found q t X left) ≤ 65536
+unfolding found
+found-few {left = left} {q} {t} {X} h =
+    let few : length (restOf left (q .rules)) ≤ 16 = omega (arith, length-append X (restOf left (q .rules)), h .range .few) in
+    le-trans (from-few (has (q .operator) t) X (restOf left (q .rules))) (pow-le-pow-right {n = 2} (omega arith) few)
+
 -- ---- the beginning: no rule is taken
 
 module _ {op : Operator} {plan : List ℤ} {q : Policy} {t : ℤ} (h : PlanFor op plan q t) {n : ℕ} (all : n ≡ length (q .rules)) where
   all-coming : restOf n (q .rules) ≡ q .rules
   all-coming = ap (λ (k : ℕ). restOf k (q .rules)) all ∙ all-rest (q .rules)
 
-  pub beginning : {x : Taken} → IsTaken x op [] → Searching op plan x n q t []
-  beginning {x} i =
+  pub beginning : {v : ℤ} → v ≡ start op → Masked op plan 0 0 v n q t []
+  unfolding maskOf setOf worth
+  beginning {v} e =
+      let here : Searching op plan 0 v n q t [] =
       record {
         planned = h;
-        taken = subst (λ (o : Operator). IsTaken x o []) (h .operator) i;
+        taken = record { count = refl; value = e ∙ ap start (h .operator) };
         inside = omega arith;
         range = subst (RulesInRange (q .operator)) (sym all-coming) (h .range);
-      }
+      } in
+      record { searching = here; mask = refl }
 
-  pub all-found : found q t [] n ≡ foundSets (has (q .operator) t) (q .rules)
+  all-found : found q t [] n ≡ foundSets (has (q .operator) t) (q .rules)
   unfolding found foundSets
   all-found = ap (foundFrom (has (q .operator) t) []) all-coming
 
-  pub found-few : length (found q t [] n) ≤ 65536
-  unfolding found
-  found-few =
-      let few : length (restOf n (q .rules)) ≤ 16 = omega (arith, ap length all-coming, h .range .few) in
-      le-trans (from-few (has (q .operator) t) [] (restOf n (q .rules))) (pow-le-pow-right {n = 2} (omega arith) few)
+-- what is found then, as document 01 has it
+pub found-lines : (q : Policy) → PolicyInRange q → {op : Operator} {plan : List ℤ} {t : ℤ} → PlanFor op plan (inRankOrder q) t → {n : ℕ} → n ≡ length (inRankOrder q .rules)
+    → found (inRankOrder q) t [] n ≡ lines (q .operator) t (q .rules)
+unfolding inRankOrder withRules
+found-lines q r {t = t} h e = all-found h e ∙ search-finds-lines (q .operator) t (q .rules) (range-fits (q .operator) (q .rules) (r .scores) (r .room))
 
 -- ---- one step, with rules still to come
 
-module _ {op : Operator} {plan : List ℤ} {x : Taken} {left : ℕ} {q : Policy} {t : ℤ} {X : List Rule} (some-left : 0 < left) (h : Searching op plan x left q t X) where
+module _ {op : Operator} {plan : List ℤ} {count : ℕ} {value : ℤ} {left : ℕ} {q : Policy} {t : ℤ} {X : List Rule} (some-left : 0 < left) (h : Searching op plan count value left q t X) where
   abbrev next : Rule
   next = nextRule q left
 
@@ -272,40 +282,46 @@ module _ {op : Operator} {plan : List ℤ} {x : Taken} {left : ℕ} {q : Policy}
   taken-range-next = range-taken (q .operator) (X ++ (next ∷ [])) after (range-with (q .operator) X next after range)
 
   -- the rule is left out
-  pub left-out : Searching op plan x (left - 1) q t X
+  pub left-out : Searching op plan count value (left - 1) q t X
   left-out = record { planned = h .planned; taken = h .taken; inside = omega (arith, h .inside); range = range-without (q .operator) X next after range }
-
-  -- the rule is taken
-  pub taken-in : {y : Taken} → IsTaken y (q .operator) (X ++ (next ∷ [])) → Searching op plan y (left - 1) q t (X ++ (next ∷ []))
-  taken-in i =
-      record { planned = h .planned; taken = i; inside = omega (arith, h .inside, length-append X (next ∷ [])); range = range-with (q .operator) X next after range }
 
   -- what the plan has of it
   row : Row plan q t left
   row = h .planned .rows left (omega (arith, h .inside))
 
-  pub next-bit : getD plan (left * 4 + 3) (pos 0) ≡ pos (setOf (next .signal ∷ []))
-  next-bit = row .bit some-left
+  -- the mask with it
+  module _ {mask : ℕ} (e : mask ≡ maskOf X) {z : ℤ} (f : z ≡ getD plan (left * 4 + 3) (pos 0)) where
+    bit : z ≡ pos (setOf (next .signal ∷ []))
+    bit = f ∙ row .bit some-left
+
+    pub next-mask : mask + natAbs z ≡ maskOf (X ++ (next ∷ []))
+    next-mask = ap₂ (λ (m : ℕ) (b : ℤ). m + natAbs b) e bit ∙ mask-more X next
+
+    pub next-mask-fits : Fits w32 (mask + natAbs z)
+    next-mask-fits = record { fits = omega (arith, next-mask, mask-small (X ++ (next ∷ [])) (taken-range-next .signals), taken-range-next .few) }
+
+    pub next-bit-fits : T (nonNeg z) × Fits w32 (natAbs z)
+    next-bit-fits = (subst (λ (b : ℤ). T (nonNeg b)) (sym bit) tt, record { fits = omega (arith, next-mask-fits .fits) })
 
   -- the rules taken with it
-  pub next-mask : x .mask + setOf (next .signal ∷ []) ≡ maskOf (X ++ (next ∷ []))
-  next-mask = ap (λ (m : ℕ). m + setOf (next .signal ∷ [])) (h .taken .mask) ∙ mask-more X next
-
-  pub next-mask-small : x .mask + setOf (next .signal ∷ []) < 2 ^ 32
-  next-mask-small = omega (arith, next-mask, mask-small (X ++ (next ∷ [])) (taken-range-next .signals), taken-range-next .few)
-
-  pub next-count : x .count + 1 ≡ length (X ++ (next ∷ []))
-  next-count = omega (arith, h .taken .count, length-append X (next ∷ []))
-
-  module _ {v w : ℤ} (e : v ≡ x .value) (f : w ≡ getD plan (left * 4 + 2) (pos 0)) where
-    pub next-worth : combinedOf op v w ≡ worth (q .operator) (X ++ (next ∷ []))
+  module _ {v : ℤ} (f : v ≡ getD plan (left * 4 + 2) (pos 0)) where
+    next-worth : combinedOf op value v ≡ worth (q .operator) (X ++ (next ∷ []))
     next-worth =
-        ap (λ (o : Operator). combinedOf o v w) (h .planned .operator)
-        ∙ ap₂ (combinedOf (q .operator)) (e ∙ h .taken .value) (f ∙ row .score some-left)
+        ap (λ (o : Operator). combinedOf o value v) (h .planned .operator)
+        ∙ ap₂ (combinedOf (q .operator)) (h .taken .value) (f ∙ row .score some-left)
         ∙ worth-more (q .operator) X next (each-middle (InScore (q .operator)) X next after (range .scores))
 
-    pub next-small : mag (combinedOf op v w) ≤ 10 ^ 16
+    pub next-small : mag (combinedOf op value v) ≤ 10 ^ 16
     next-small = subst (λ (z : ℤ). mag z ≤ 10 ^ 16) (sym next-worth) (worth-small (q .operator) (X ++ (next ∷ [])) taken-range-next)
+
+    pub taken-in : {z : ℤ} → z ≡ combinedOf op value v → Searching op plan (count + 1) z (left - 1) q t (X ++ (next ∷ []))
+    taken-in e =
+        record {
+          planned = h .planned;
+          taken = record { count = omega (arith, h .taken .count, length-append X (next ∷ [])); value = e ∙ next-worth };
+          inside = omega (arith, h .inside, length-append X (next ∷ []));
+          range = range-with (q .operator) X next after range;
+        }
 
   -- ---- what is found
 
@@ -325,6 +341,8 @@ pub found-itself : (q : Policy) (t : ℤ) (Y : List Rule) (k : ℕ) → has (q .
 unfolding found
 found-itself q t Y k h = from-itself (has (q .operator) t) Y h (restOf k (q .rules))
 
-pub found-none : (q : Policy) (t : ℤ) (X : List Rule) → has (q .operator) t X ≡ false → found q t X 0 ≡ []
+pub found-none : (q : Policy) (t : ℤ) (X : List Rule) (k : ℕ) → k ≤ 0 → has (q .operator) t X ≡ false → found q t X k ≡ []
 unfolding found
-found-none q t X h = ap (foundFrom (has (q .operator) t) X) (no-rest (q .rules)) ∙ from-nothing (has (q .operator) t) X h
+found-none q t X k z h =
+    let e : k ≡ 0 = omega arith in
+    ap (foundFrom (has (q .operator) t) X) (ap (λ (n : ℕ). restOf n (q .rules)) e ∙ no-rest (q .rules)) ∙ from-nothing (has (q .operator) t) X h

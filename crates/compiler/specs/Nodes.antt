@@ -13,10 +13,8 @@ use Rattle.peal.specs.Policies.{Policy, MinMax, smaller, Condition, Book, polic
 use Rattle.peal.specs.Lines.{lines}
 use Rattle.peal.specs.Translation.{joinOf, listed, translated}
 use Rattle.book.specs.Ranges.{PolicyInRange, ConditionKept}
-use Rattle.book.specs.Stored.{storedPolicy}
-use Rattle.book.specs.declared.stored.Policy.{Policy as StoredPolicy}
-use Rattle.book.specs.declared.stored.Condition.{Condition as StoredCondition}
-use Rattle.book.specs.declared.stored.Book.{Book as StoredBook}
+use Rattle.book.specs.Codes.{codesOf}
+use Rattle.book.specs.Cells.{PolicyCells}
 use Rattle.compiler.specs.Planning.{ThresholdFits}
 
 -- how many lines a node has: a join has none
@@ -48,19 +46,20 @@ nodesOf b c = postfix (translated (b .policies) c)
 unfoldable pub nodeAt : Book → Condition → ℕ → ListedNode
 nodeAt b c i = listedNode b c (getD (postfix (c .expression)) i (joining smaller))
 
--- the stored policy is that of one in range, which has so many lines under threshold t
-pub record LinesKept (p : StoredPolicy) (t : ℤ) (count : ℕ) : Type 0 where
+-- the cells of policy k are those of one in range, which has so many lines under threshold t
+pub record LinesKept (cells : List ℤ) (k : ℕ) (t : ℤ) (count : ℕ) : Type 0 where
   pub policy : Policy
-  pub held : p ≡ storedPolicy policy
+  pub inside : k < 16
+  pub held : PolicyCells cells k policy
   pub range : PolicyInRange policy
   pub fits : ThresholdFits t
   pub counted : count ≡ length (lines (policy .operator) t (policy .rules))
 
--- 31 cells hold how many lines each of the first n nodes has
-pub record CountsUpTo (b : StoredBook) (c : StoredCondition) (counts : List ℕ) (n : ℕ) : Type 0 where
-  pub room : length counts ≡ 31
-  pub each : (h : ConditionKept b c) (i : ℕ) → i < n → getD counts i 0 ≡ linesIn (nodeAt (h .book) (h .condition) i)
+-- the first m counts are how many lines each of the first m nodes of condition n has
+abbrev pub CountsUpTo : List ℤ → ℕ → List ℕ → ℕ → Type 0
+CountsUpTo cells n counts m = (h : ConditionKept cells n) (i : ℕ) → i < m → getD counts i 0 ≡ linesIn (nodeAt (h .book) (h .condition) i)
 
 -- the same for all its nodes
-abbrev pub CountsKept : StoredBook → StoredCondition → List ℕ → Type 0
-CountsKept b c counts = CountsUpTo b c counts (c .length)
+abbrev pub CountsKept : List ℤ → ℕ → List ℕ → Type 0
+CountsKept cells n counts =
+    (h : ConditionKept cells n) (i : ℕ) → i < length (codesOf (h .condition .expression)) → getD counts i 0 ≡ linesIn (nodeAt (h .book) (h .condition) i)

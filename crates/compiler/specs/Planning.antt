@@ -11,8 +11,8 @@ use Rattle.peal.specs.Policies.{Rule, Policy, noRule}
 use Rattle.peal.specs.declared.Operator.{Operator}
 use Rattle.peal.specs.declared.Operator.the-variants.{Mul}
 use Rattle.book.specs.Acceptance.{within, scoreInRange}
-use Rattle.book.specs.Stored.{storedPolicy}
-use Rattle.book.specs.declared.stored.Policy.{Policy as StoredPolicy}
+use Rattle.book.specs.Cells.{storedPolicy}
+use Rattle.book.specs.declared.cells.Policy.{Policy as StoredPolicy}
 use Rattle.compiler.specs.Worth.{worth, limitOf}
 
 -- T is in range
@@ -59,5 +59,4 @@ pub record PlanFor (o : Operator) (plan : List ℤ) (q : Policy) (t : ℤ) : Typ
   pub operator : o ≡ q .operator
   pub range : RulesInRange (q .operator) (q .rules)
   pub fits : ThresholdFits t
-  pub long : length plan ≡ 68
   pub rows : (k : ℕ) → k ≤ length (q .rules) → Row plan q t k

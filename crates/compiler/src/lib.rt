@@ -27,19 +27,18 @@ pub enum Compiled {
     NoRoom,
 }
 
-// The words are written only once the listing is known to have room.
-fn compile_condition(b: book::Book, c: book::Condition, words: &mut [u32]) -> Compiled
-    requires { ⌜ ConditionKept b c ⌝ }
-    ensures { λ r. ⌜ ((h : ConditionKept b c) → compiledMeaning r ≡ returned (fitting (length (now (words .entry))) (listingRecords (h .book) (h .condition)))) ⌝ }
-    ensures { λ r. ⌜ ((h : ConditionKept b c) → now (words .exit) ≡ lentAfter (now (words .entry)) (fitting (length (now (words .entry))) (listingRecords (h .book) (h .condition)))) ⌝ }
+// Condition n of a read book. The words are written only once the listing is known to have room.
+fn compile_condition(cells: &book::Cells, n: usize, words: &mut [u32]) -> Compiled
+    requires { ⌜ ConditionKept (now cells) n ⌝ }
+    ensures { λ r. ⌜ ((h : ConditionKept (now (cells .entry)) n) → compiledMeaning r ≡ returned (fitting (length (now (words .entry))) (listingRecords (h .book) (h .condition)))) ⌝ }
+    ensures { λ r. ⌜ ((h : ConditionKept (now (cells .entry)) n) → now (words .exit) ≡ lentAfter (now (words .entry)) (fitting (length (now (words .entry))) (listingRecords (h .book) (h .condition)))) ⌝ }
 {
-    let all = count_records(b, c);
-    let records = all.records;
+    let mut lines = [0usize; 31];
+    let records = count_records(cells, n, &mut lines);
     if words.len() < records * 4 {
         return Compiled::NoRoom;
     }
-    let lines = all.lines;
-    put_nodes(b, c, lines, words);
+    put_nodes(cells, n, &lines, words);
     Compiled::Records(records)
 }
 
@@ -47,8 +46,8 @@ pub fn compile(bytes: &[u8], condition: u32, words: &mut [u32]) -> Compiled
     ensures { λ r. ⌜ compiledMeaning r ≡ returned (compiled (now (bytes .entry)) condition (length (now (words .entry)))) ⌝ }
     ensures { λ r. ⌜ now (words .exit) ≡ lentAfter (now (words .entry)) (compiled (now (bytes .entry)) condition (length (now (words .entry)))) ⌝ }
 {
-    let r = book::read(bytes);
-    let answer = r.answer;
+    let mut cells = [0i32; 848];
+    let answer = book::read(bytes, &mut cells);
     match answer {
         book::Checked::Accepted {
             policies,
@@ -56,9 +55,7 @@ pub fn compile(bytes: &[u8], condition: u32, words: &mut [u32]) -> Compiled
         } => {
             let n = condition as usize;
             if n < conditions {
-                let b = r.book;
-                let c = b.conditions[n];
-                compile_condition(b, c, words)
+                compile_condition(&cells, n, words)
             } else {
                 Compiled::NoCondition
             }

@@ -10,12 +10,11 @@ ghost use lib.Dec.{ltb};
 ghost use lib.ListN.{length};
 ghost use Rattle.arith.specs.Trees.{value, joining};
 ghost use Rattle.layout.specs.Records.{joinKind, policyKind};
-ghost use Rattle.peal.specs.Policies.{Policy as PealPolicy, MinMax};
+ghost use Rattle.peal.specs.Policies.{MinMax};
 ghost use Rattle.peal.specs.Score.{scaled, meets};
-ghost use Rattle.peal.specs.Translation.{joinOf, turned, quiet, maskOf, listed, listingRecords};
-ghost use Rattle.book.specs.Codes.{codeOf};
-ghost use Rattle.book.specs.Ranges.{PolicyKept, ConditionKept};
-ghost use Rattle.book.specs.Stored.{storedPolicy};
+ghost use Rattle.peal.specs.Translation.{joinOf, turned, listed, listingRecords};
+ghost use Rattle.book.specs.Codes.{codeOf, codesOf};
+ghost use Rattle.book.specs.Ranges.{ConditionKept};
 ghost use Rattle.compiler.specs.Putting.{putRecords};
 ghost use Rattle.compiler.specs.Nodes.{linesIn, oneNode, nodeAt, CountsUpTo, CountsKept, LinesKept};
 
@@ -60,29 +59,13 @@ fn is_turned(sense: peal::Sense, o: peal::Operator) -> bool
     }
 }
 
-// The kind of a policy.
-fn policy_kind(sense: peal::Sense, t: i32, p: book::Policy) -> u32
-    ensures { λ r. ⌜ ((q : PealPolicy) → p ≡ storedPolicy q → r ≡ policyKind (quiet sense t q) (turned sense (q .operator))) ⌝ }
+// The kind of a policy, from its operator and default.
+fn policy_kind(sense: peal::Sense, t: i32, o: peal::Operator, d: i32) -> u32
+    ensures { λ r. ⌜ r ≡ policyKind (meets sense t (scaled d)) (turned sense o) ⌝ }
 {
-    let o = p.operator;
-    let d = p.default;
     let quiet = is_met(sense, t, d) as u32;
     let turned = is_turned(sense, o) as u32;
     16 + quiet + 2 * turned
-}
-
-// The signals of all the policy's rules.
-fn mask_of(p: book::Policy) -> u32
-    requires { ⌜ PolicyKept p ⌝ }
-    ensures { λ r. ⌜ ((q : PealPolicy) → p ≡ storedPolicy q → r ≡ maskOf (q .rules)) ⌝ }
-{
-    let mut mask = 0;
-    let mut i = p.count;
-    while 0 < i {
-        i -= 1;
-        mask += signals::bit(p.signals[i]);
-    }
-    mask
 }
 
 // Record number n where something stands there, otherwise 0.
@@ -96,61 +79,53 @@ fn number_if(there: bool, n: usize) -> u32
     0
 }
 
-// How many lines node i has.
-fn node_lines(b: book::Book, c: book::Condition, i: usize) -> usize
-    requires { ⌜ (i < c .length) × ConditionKept b c ⌝ }
-    ensures { λ r. ⌜ ((h : ConditionKept b c) → r ≡ linesIn (nodeAt (h .book) (h .condition) i)) ⌝ }
+// How many lines node i of condition n has.
+fn node_lines(cells: &book::Cells, n: usize, i: usize) -> usize
+    requires { ⌜ ((h : ConditionKept (now cells) n) × (i < length (codesOf (h .condition .expression)))) ⌝ }
+    ensures { λ r. ⌜ ((h : ConditionKept (now (cells .entry)) n) → r ≡ linesIn (nodeAt (h .book) (h .condition) i)) ⌝ }
 {
-    let t = c.threshold;
-    let code = c.codes[i];
+    let code = book::code_at(cells, n, i);
     if code < 2 {
         return 0;
     }
-    let p = b.policies[code as usize - 2];
+    let t = book::threshold_at(cells, n);
+    let p = book::policy_at(cells, code as usize - 2);
     count_lines(p, t)
 }
 
 // The same, where `lines` has those of the nodes before it: a policy mentioned again is not searched again.
-fn next_lines(b: book::Book, c: book::Condition, lines: [usize; 31], i: usize) -> usize
-    requires { ⌜ (i < c .length) × ConditionKept b c × CountsUpTo b c lines i ⌝ }
-    ensures { λ r. ⌜ ((h : ConditionKept b c) → r ≡ linesIn (nodeAt (h .book) (h .condition) i)) ⌝ }
+fn next_lines(cells: &book::Cells, n: usize, lines: &[usize; 31], i: usize) -> usize
+    requires { ⌜ ((h : ConditionKept (now cells) n) × (i < length (codesOf (h .condition .expression))) × CountsUpTo (now cells) n (now lines) i) ⌝ }
+    ensures { λ r. ⌜ ((h : ConditionKept (now (cells .entry)) n) → r ≡ linesIn (nodeAt (h .book) (h .condition) i)) ⌝ }
 {
-    let code = c.codes[i];
+    let code = book::code_at(cells, n, i);
     let mut j = 0;
     while j < i {
-        let earlier = c.codes[j];
+        let earlier = book::code_at(cells, n, j);
         if earlier == code {
             return lines[j];
         }
         j += 1;
     }
-    node_lines(b, c, i)
+    node_lines(cells, n, i)
 }
 
-// How many records the listing has, and how many lines each node.
-pub struct Counted {
-    pub records: usize,
-    pub lines: [usize; 31],
-}
-
-pub fn count_records(b: book::Book, c: book::Condition) -> Counted
-    requires { ⌜ ConditionKept b c ⌝ }
-    ensures { λ r. ⌜ (r .records < 2 ^ 31) × ((h : ConditionKept b c) → r .records ≡ length (listingRecords (h .book) (h .condition))) × CountsKept b c (r .lines) ⌝ }
+// How many records the listing of condition n has; and into `lines`, how many lines each node.
+pub fn count_records(cells: &book::Cells, n: usize, lines: &mut [usize; 31]) -> usize
+    requires { ⌜ ConditionKept (now cells) n ⌝ }
+    ensures { λ r. ⌜ (r < 2 ^ 31) × ((h : ConditionKept (now (cells .entry)) n) → r ≡ length (listingRecords (h .book) (h .condition))) × CountsKept (now (cells .entry)) n (now (lines .exit)) ⌝ }
 {
-    let n = c.length;
-    let mut lines = [0usize; 31];
+    let count = book::length_at(cells, n);
     let mut records = 0;
     let mut i = 0;
-    while i < n {
-        let count = next_lines(b, c, lines, i);
-        lines[i] = count;
-        records += 1 + count;
+    while i < count {
+        let next = next_lines(cells, n, lines, i);
+        let counts = &mut lines[..];
+        counts[i] = next;
+        records += 1 + next;
         i += 1;
     }
-    Counted {
-        records: records,
-        lines: lines,
-    }
+    records
 }
 
 // A join as record `at`; `more` tells whether a node follows.
@@ -163,9 +138,10 @@ fn put_join(sense: peal::Sense, code: u32, words: &mut [u32], at: usize, more: b
     put_record(words, at, kind, 0, 0, next);
 }
 
-// A mention of policy p, with so many lines, from record `at` on.
+// A mention of policy k, with so many lines, from record `at` on.
 fn put_policy(
-    p: book::Policy,
+    cells: &book::Cells,
+    k: usize,
     sense: peal::Sense,
     t: i32,
     count: usize,
@@ -173,46 +149,49 @@ fn put_policy(
     at: usize,
     more: bool,
 )
-    requires { ⌜ (0 < at) × (at < 2 ^ 30) × LinesKept p t count ⌝ }
-    ensures { λ r. ⌜ ((h : LinesKept p t count) → now (words .exit) ≡ putRecords (now (words .entry)) at (oneNode at more (value (listed sense t (h .policy))))) ⌝ }
+    requires { ⌜ (0 < at) × (at < 2 ^ 30) × LinesKept (now cells) k t count ⌝ }
+    ensures { λ r. ⌜ ((h : LinesKept (now (cells .entry)) k t count) → now (words .exit) ≡ putRecords (now (words .entry)) at (oneNode at more (value (listed sense t (h .policy))))) ⌝ }
 {
-    let kind = policy_kind(sense, t, p);
-    let mask = mask_of(p);
+    let o = book::operator_at(cells, k);
+    let d = book::default_at(cells, k);
+    let kind = policy_kind(sense, t, o, d);
+    let mask = book::mask_at(cells, k) as u32;
     let some = 0 < count;
     let lines = number_if(some, at + 1);
     let next = number_if(more, at + 1 + count);
     put_record(words, at, kind, mask, lines, next);
+    let p = book::policy_at(cells, k);
     put_lines(p, t, words, at + 1, at + count);
 }
 
-// Node i, with so many lines, from record `at` on.
-fn put_node(b: book::Book, c: book::Condition, i: usize, count: usize, words: &mut [u32], at: usize)
-    requires { ⌜ (i < c .length) × (0 < at) × (at < 2 ^ 30) × ConditionKept b c × ((h : ConditionKept b c) → count ≡ linesIn (nodeAt (h .book) (h .condition) i)) ⌝ }
-    ensures { λ r. ⌜ ((h : ConditionKept b c) → now (words .exit) ≡ putRecords (now (words .entry)) at (oneNode at (ltb (i + 1) (c .length)) (nodeAt (h .book) (h .condition) i))) ⌝ }
+// Node i of condition n, with so many lines, from record `at` on.
+fn put_node(cells: &book::Cells, n: usize, i: usize, count: usize, words: &mut [u32], at: usize)
+    requires { ⌜ (0 < at) × (at < 2 ^ 30) × ((h : ConditionKept (now cells) n) → count ≡ linesIn (nodeAt (h .book) (h .condition) i)) × ((h : ConditionKept (now cells) n) × (i < length (codesOf (h .condition .expression)))) ⌝ }
+    ensures { λ r. ⌜ ((h : ConditionKept (now (cells .entry)) n) → now (words .exit) ≡ putRecords (now (words .entry)) at (oneNode at (ltb (i + 1) (length (codesOf (h .condition .expression)))) (nodeAt (h .book) (h .condition) i))) ⌝ }
 {
-    let sense = c.sense;
-    let t = c.threshold;
-    let code = c.codes[i];
-    let more = i + 1 < c.length;
+    let sense = book::sense_at(cells, n);
+    let code = book::code_at(cells, n, i);
+    let all = book::length_at(cells, n);
+    let more = i + 1 < all;
     if code < 2 {
         put_join(sense, code, words, at, more);
     } else {
-        let p = b.policies[code as usize - 2];
-        put_policy(p, sense, t, count, words, at, more);
+        let t = book::threshold_at(cells, n);
+        put_policy(cells, code as usize - 2, sense, t, count, words, at, more);
     }
 }
 
-// The records of all nodes, from record 1 on.
-pub fn put_nodes(b: book::Book, c: book::Condition, lines: [usize; 31], words: &mut [u32])
-    requires { ⌜ ConditionKept b c × CountsKept b c lines ⌝ }
-    ensures { λ r. ⌜ ((h : ConditionKept b c) → now (words .exit) ≡ putRecords (now (words .entry)) 1 (listingRecords (h .book) (h .condition))) ⌝ }
+// The records of all nodes of condition n, from record 1 on; `lines` has how many lines each of them has.
+pub fn put_nodes(cells: &book::Cells, n: usize, lines: &[usize; 31], words: &mut [u32])
+    requires { ⌜ ConditionKept (now cells) n × CountsKept (now cells) n (now lines) ⌝ }
+    ensures { λ r. ⌜ ((h : ConditionKept (now (cells .entry)) n) → now (words .exit) ≡ putRecords (now (words .entry)) 1 (listingRecords (h .book) (h .condition))) ⌝ }
 {
-    let n = c.length;
+    let all = book::length_at(cells, n);
     let mut at = 1;
     let mut i = 0;
-    while i < n {
+    while i < all {
         let count = lines[i];
-        put_node(b, c, i, count, words, at);
+        put_node(cells, n, i, count, words, at);
         at += 1 + count;
         i += 1;
     }

@@ -6,10 +6,9 @@
 ghost use mathlib.Core.Path.{_≡_};
 ghost use Prim.Native.Nat.{ℕ, _+_, _^_, _≤_};
 ghost use lib.IntN.{ℤ};
-ghost use lib.ListN.{length};
 ghost use lib.Signed.{mag};
 ghost use Rattle.peal.specs.Policies.{Policy as PealPolicy};
-ghost use Rattle.book.specs.Stored.{storedPolicy};
+ghost use Rattle.book.specs.Cells.{storedPolicy};
 ghost use Rattle.compiler.specs.Worth.{start as startOf, clamped as clampedOf, limitOf};
 ghost use Rattle.compiler.specs.Planning.{ThresholdFits, RulesInRange, RulesKept, withRow, PlanFor};
 
@@ -64,8 +63,8 @@ pub fn start(o: peal::Operator) -> i64
 }
 
 // The cells for k rules.
-fn put_row(plan: &mut [i64], k: usize, limit: i64, rest: i64, score: i64, bit: i64)
-    requires { ⌜ (k ≤ 16) × (length (now plan) ≡ 68) ⌝ }
+fn put_row(plan: &mut [i64; 68], k: usize, limit: i64, rest: i64, score: i64, bit: i64)
+    requires { ⌜ k ≤ 16 ⌝ }
     ensures { λ r. ⌜ now (plan .exit) ≡ withRow (now (plan .entry)) k limit rest score bit ⌝ }
 {
     plan[k * 4] = limit;

@@ -6,7 +6,7 @@ use crate::planning::start;
 use crate::ranking::in_rank_order;
 use crate::writing::put_line;
 ghost use mathlib.Core.Bool.{false};
-ghost use mathlib.Core.List.{List, [], _∷_, _++_, map};
+ghost use mathlib.Core.List.{List, _++_, map};
 ghost use mathlib.Core.Path.{_≡_};
 ghost use Prim.Native.Nat.{_+_, _^_, _≤_, _<_};
 ghost use lib.ListN.{length};
@@ -16,19 +16,12 @@ ghost use Rattle.peal.specs.Policies.{Rule, Policy as PealPolicy};
 ghost use Rattle.peal.specs.Having.{has};
 ghost use Rattle.peal.specs.Lines.{lines};
 ghost use Rattle.peal.specs.Translation.{maskOf};
-ghost use Rattle.book.specs.Ranges.{PolicyInRange, PolicyKept};
-ghost use Rattle.book.specs.Stored.{storedPolicy};
+ghost use Rattle.book.specs.Ranges.{PolicyInRange, PolicyByValue};
+ghost use Rattle.book.specs.Cells.{storedPolicy};
 ghost use Rattle.compiler.specs.Putting.{putRecords, linesUpTo};
 ghost use Rattle.compiler.specs.Worth.{reachedOf};
-ghost use Rattle.compiler.specs.Planning.{ThresholdFits, restOf, nextRule};
-ghost use Rattle.compiler.specs.Searching.{IsTaken, Searching, CanSearch, CanPut, found};
-
-// The rules taken so far: their signals, how many they are, and the operator over their scores.
-pub struct Taken {
-    pub mask: u32,
-    pub count: usize,
-    pub value: i64,
-}
+ghost use Rattle.compiler.specs.Planning.{ThresholdFits, restOf};
+ghost use Rattle.compiler.specs.Searching.{Searching, Masked, CanSearch, CanCount, CanPut, found};
 
 // A value is on the side of the limit that counts.
 fn is_reached(o: peal::Operator, limit: i64, value: i64) -> bool
@@ -43,85 +36,58 @@ fn is_reached(o: peal::Operator, limit: i64, value: i64) -> bool
     }
 }
 
-// The rules taken and all `left` rules still to come have the property together.
-fn can_reach(o: peal::Operator, plan: &[i64], x: Taken, left: usize) -> bool
-    requires { ⌜ CanSearch o (now plan) x left ⌝ }
-    ensures { λ r. ⌜ ((q : PealPolicy) (t : ℤ) (X : List Rule) → Searching o (now (plan .entry)) x left q t X → r ≡ has (q .operator) t (X ++ restOf left (q .rules))) ⌝ }
+// The `count` rules taken, worth `value`, and all `left` rules still to come have the property together.
+fn can_reach(o: peal::Operator, plan: &[i64; 68], count: usize, value: i64, left: usize) -> bool
+    requires { ⌜ CanSearch o (now plan) count value left ⌝ }
+    ensures { λ r. ⌜ ((q : PealPolicy) (t : ℤ) (X : List Rule) → Searching o (now (plan .entry)) count value left q t X → r ≡ has (q .operator) t (X ++ restOf left (q .rules))) ⌝ }
 {
-    let all = x.count + left;
+    let all = count + left;
     let limit = plan[all * 4];
     let rest = plan[left * 4 + 1];
-    let value = peal::combined(o, x.value, rest);
-    is_reached(o, limit, value)
+    is_reached(o, limit, peal::combined(o, value, rest))
 }
 
 // The rules taken have the property.
-fn has_reached(o: peal::Operator, plan: &[i64], x: Taken) -> bool
-    requires { ⌜ CanSearch o (now plan) x 0 ⌝ }
-    ensures { λ r. ⌜ ((q : PealPolicy) (t : ℤ) (X : List Rule) → Searching o (now (plan .entry)) x 0 q t X → r ≡ has (q .operator) t X) ⌝ }
+fn has_reached(o: peal::Operator, plan: &[i64; 68], count: usize, value: i64) -> bool
+    requires { ⌜ CanSearch o (now plan) count value 0 ⌝ }
+    ensures { λ r. ⌜ ((q : PealPolicy) (t : ℤ) (X : List Rule) → Searching o (now (plan .entry)) count value 0 q t X → r ≡ has (q .operator) t X) ⌝ }
 {
-    let count = x.count;
-    let limit = plan[count * 4];
-    is_reached(o, limit, x.value)
+    is_reached(o, plan[count * 4], value)
 }
 
-// No rule is taken.
-fn none_taken(o: peal::Operator) -> Taken
-    ensures { λ r. ⌜ IsTaken r o [] ⌝ }
-{
-    Taken {
-        mask: 0,
-        count: 0,
-        value: start(o),
-    }
-}
-
-// One rule more is taken: the first of the `left` rules still to come.
-fn with_rule(o: peal::Operator, plan: &[i64], x: Taken, left: usize) -> Taken
-    requires { ⌜ (0 < left) × CanSearch o (now plan) x left ⌝ }
-    ensures { λ r. ⌜ ((q : PealPolicy) (t : ℤ) (X : List Rule) → Searching o (now (plan .entry)) x left q t X → IsTaken r (q .operator) (X ++ (nextRule q left ∷ []))) ⌝ }
-{
-    let score = plan[left * 4 + 2];
-    let bit = plan[left * 4 + 3];
-    let before = x.mask;
-    let mask = before + bit as u32;
-    let count = x.count + 1;
-    let value = peal::combined(o, x.value, score);
-    Taken {
-        mask: mask,
-        count: count,
-        value: value,
-    }
-}
-
-// The sets found from x and the `rank` rules of lowest rank, as lines from record `at` on; record `last` is the policy's
-// last line. The rules taken do not have the property. Returns the number of the record behind.
+// The sets found from the rules taken, whose signals are the mask, and the `rank` rules of lowest rank, as lines from
+// record `at` on; record `last` is the policy's last line. The rules taken do not have the property. Returns the number
+// of the record behind.
 fn search(
     o: peal::Operator,
-    plan: &[i64],
-    x: Taken,
+    plan: &[i64; 68],
+    mask: u32,
+    count: usize,
+    value: i64,
     rank: usize,
     words: &mut [u32],
     at: usize,
     last: usize,
 ) -> usize
-    requires { ⌜ (0 < at) × CanPut o (now plan) x rank at ⌝ }
-    ensures { λ r. ⌜ ((q : PealPolicy) (t : ℤ) (X : List Rule) → Searching o (now (plan .entry)) x rank q t X → has (q .operator) t X ≡ false → r ≡ at + length (found q t X rank)) ⌝ }
-    ensures { λ r. ⌜ ((q : PealPolicy) (t : ℤ) (X : List Rule) → Searching o (now (plan .entry)) x rank q t X → has (q .operator) t X ≡ false → now (words .exit) ≡ putRecords (now (words .entry)) at (linesUpTo last at (map maskOf (found q t X rank)))) ⌝ }
+    requires { ⌜ (0 < at) × CanPut o (now plan) mask count value rank at ⌝ }
+    ensures { λ r. ⌜ ((q : PealPolicy) (t : ℤ) (X : List Rule) → Masked o (now (plan .entry)) mask count value rank q t X → has (q .operator) t X ≡ false → r ≡ at + length (found q t X rank)) ⌝ }
+    ensures { λ r. ⌜ ((q : PealPolicy) (t : ℤ) (X : List Rule) → Masked o (now (plan .entry)) mask count value rank q t X → has (q .operator) t X ≡ false → now (words .exit) ≡ putRecords (now (words .entry)) at (linesUpTo last at (map maskOf (found q t X rank)))) ⌝ }
 {
     let mut next = at;
     let mut left = rank;
     while 0 < left {
-        if !can_reach(o, plan, x, left) {
+        if !can_reach(o, plan, count, value, left) {
             return next;
         }
-        let y = with_rule(o, plan, x, left);
+        // With the first of the rules still to come.
+        let m = mask + plan[left * 4 + 3] as u32;
+        let v = peal::combined(o, value, plan[left * 4 + 2]);
         left -= 1;
-        if has_reached(o, plan, y) {
-            put_line(words, next, y.mask, last);
+        if has_reached(o, plan, count + 1, v) {
+            put_line(words, next, m, last);
             next += 1;
         } else {
-            next = search(o, plan, y, left, words, next, last);
+            next = search(o, plan, m, count + 1, v, left, words, next, last);
         }
     }
     next
@@ -130,7 +96,7 @@ fn search(
 // The lines of a policy under threshold t, from record `at` on; record `last` is the last of them. Returns the number of
 // the record behind.
 pub fn put_lines(p: book::Policy, t: i32, words: &mut [u32], at: usize, last: usize) -> usize
-    requires { ⌜ (0 < at) × (at < 2 ^ 31) × PolicyKept p × ThresholdFits t ⌝ }
+    requires { ⌜ (0 < at) × (at < 2 ^ 31) × PolicyByValue p × ThresholdFits t ⌝ }
     ensures { λ r. ⌜ ((q : PealPolicy) → p ≡ storedPolicy q → PolicyInRange q → r ≡ at + length (lines (q .operator) t (q .rules))) ⌝ }
     ensures { λ r. ⌜ ((q : PealPolicy) → p ≡ storedPolicy q → PolicyInRange q → now (words .exit) ≡ putRecords (now (words .entry)) at (linesUpTo last at (map maskOf (lines (q .operator) t (q .rules))))) ⌝ }
 {
@@ -138,19 +104,48 @@ pub fn put_lines(p: book::Policy, t: i32, words: &mut [u32], at: usize, last: us
     let o = q.operator;
     let n = q.count;
     let plan = planned(q, t);
-    let x = none_taken(o);
-    if has_reached(o, &plan, x) {
+    let value = start(o);
+    if has_reached(o, &plan, 0, value) {
         put_line(words, at, 0, last);
         return at + 1;
     }
-    search(o, &plan, x, n, words, at, last)
+    search(o, &plan, 0, 0, value, n, words, at, last)
+}
+
+// How many sets the search finds.
+fn count_found(o: peal::Operator, plan: &[i64; 68], count: usize, value: i64, rank: usize) -> usize
+    requires { ⌜ CanCount o (now plan) count value rank ⌝ }
+    ensures { λ r. ⌜ ((q : PealPolicy) (t : ℤ) (X : List Rule) → Searching o (now (plan .entry)) count value rank q t X → has (q .operator) t X ≡ false → r ≡ length (found q t X rank)) ⌝ }
+{
+    let mut sets = 0;
+    let mut left = rank;
+    while 0 < left {
+        if !can_reach(o, plan, count, value, left) {
+            return sets;
+        }
+        let v = peal::combined(o, value, plan[left * 4 + 2]);
+        left -= 1;
+        if has_reached(o, plan, count + 1, v) {
+            sets += 1;
+        } else {
+            sets += count_found(o, plan, count + 1, v, left);
+        }
+    }
+    sets
 }
 
 // How many lines a policy has.
 pub fn count_lines(p: book::Policy, t: i32) -> usize
-    requires { ⌜ PolicyKept p × ThresholdFits t ⌝ }
+    requires { ⌜ PolicyByValue p × ThresholdFits t ⌝ }
     ensures { λ r. ⌜ ((q : PealPolicy) → p ≡ storedPolicy q → PolicyInRange q → r ≡ length (lines (q .operator) t (q .rules))) ⌝ }
 {
-    let mut none = [0u32; 1];
-    put_lines(p, t, &mut none[..0], 1, 0) - 1
+    let q = in_rank_order(p);
+    let o = q.operator;
+    let n = q.count;
+    let plan = planned(q, t);
+    let value = start(o);
+    if has_reached(o, &plan, 0, value) {
+        return 1;
+    }
+    count_found(o, &plan, 0, value, n)
 }

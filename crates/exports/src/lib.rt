@@ -29,26 +29,13 @@ fn refused(number: u64, value: u64) -> u64
     number + 32 * value
 }
 
-fn reason_number(reason: book::Reason) -> u64
-    ensures { λ r. ⌜ (r ≡ reasonNumber reason) × (r < 16) ⌝ }
-{
-    match reason {
-        book::Reason::TooLong => 1,
-        book::Reason::NoForm => 2,
-        book::Reason::OutOfPlace => 3,
-        book::Reason::TooMany => 4,
-        book::Reason::OutOfRange => 5,
-        book::Reason::Repeated => 6,
-    }
-}
-
 fn refused_book(refusal: book::Refusal) -> u64
     requires { ⌜ refusal .line < 2 ^ 59 ⌝ }
     ensures { λ r. ⌜ r ≡ asOne (reasonNumber (refusal .reason)) 0 (refusal .line) ⌝ }
 {
     let reason = refusal.reason;
     let line = refusal.line as u64;
-    refused(reason_number(reason), line)
+    refused(book::reason_number(reason), line)
 }
 
 fn refused_listing(fault: layout::Fault) -> u64

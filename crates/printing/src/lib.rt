@@ -1,6 +1,4 @@
 // The answers of the calls on standard output, in document 01's words and numbers, for the programs. No line end is added.
-ghost use mathlib.Core.Path.{_≡_};
-ghost use Rattle.book.specs.Meaning.{reasonNumber};
 
 pub fn print(text: &[u8]) {
     io::write_all(libc::STDOUT_FILENO, text);
@@ -17,22 +15,9 @@ pub fn print_refused(number: u64, value: u64) {
     print_number(value);
 }
 
-fn reason_number(reason: book::Reason) -> u64
-    ensures { λ r. ⌜ r ≡ reasonNumber reason ⌝ }
-{
-    match reason {
-        book::Reason::TooLong => 1,
-        book::Reason::NoForm => 2,
-        book::Reason::OutOfPlace => 3,
-        book::Reason::TooMany => 4,
-        book::Reason::OutOfRange => 5,
-        book::Reason::Repeated => 6,
-    }
-}
-
 pub fn print_refusal(refusal: book::Refusal) {
     let reason = refusal.reason;
-    print_refused(reason_number(reason), refusal.line as u64);
+    print_refused(book::reason_number(reason), refusal.line as u64);
 }
 
 pub fn print_fault(fault: layout::Fault) {

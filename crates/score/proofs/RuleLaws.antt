@@ -1,4 +1,4 @@
--- The present rules of a stored policy, one by one.
+-- The present rules of a policy, one by one.
 use Prim.Native.Nat.{ℕ, _-_, _^_, _≤_, _<_}
 use mathlib.Core.Bool.{Bool, true, false, cond}
 use mathlib.Core.List.{List, [], _∷_}
@@ -16,26 +16,21 @@ use Rattle.peal.specs.Score.{scaled, presentRules, applied, scoreOf, policyScor
 use Rattle.peal.specs.declared.Operator.{Operator}
 use Rattle.peal.specs.declared.Operator.the-variants.{Mul}
 use Rattle.book.specs.Ranges.{PolicyInRange}
-use Rattle.book.specs.Stored.{storedPolicy}
-use Rattle.book.specs.declared.stored.Policy.{Policy as StoredPolicy}
 use Rattle.book.proofs.RangeLaws.{rules-at-most}
 use Rattle.book.proofs.ScoreSizes.{within-mag, InScore, InRange, Room}
-use Rattle.book.proofs.StoredRules.{rules-before, count-is, operator-is, signal-at, score-at}
+use Rattle.book.proofs.StoredRules.{rules-before}
 use Rattle.score.specs.PolicyScores.{ruleScore, over, presentOf, withScore}
 use Rattle.score.specs.declared.policies.Present.{Present}
 use Rattle.score.proofs.PolicyLaws.{applied-mul, mul-natural, over-small, present-more}
 
-module _ (p : StoredPolicy) (q : Policy) (e : p ≡ storedPolicy q) (i : ℕ) (h : i < p .count) (set : ℕ) (t : Bool) (told : t ≡ present set (getD (p .signals) i 0)) where
-  here : present set (getD (q .rules) i noRule .signal) ≡ t
-  here = ap (present set) (sym (signal-at p q e i h)) ∙ sym told
-
-  pub rule-present : t ≡ true → (v : ℤ) → v ≡ getD (p .scores) i (pos 0) → some v ≡ ruleScore set (getD (q .rules) i noRule)
+module _ (q : Policy) (i set : ℕ) (t : Bool) (told : t ≡ present set (getD (q .rules) i noRule .signal)) where
+  pub rule-present : t ≡ true → (v : ℤ) → v ≡ getD (q .rules) i noRule .score → some v ≡ ruleScore set (getD (q .rules) i noRule)
   unfolding ruleScore
-  rule-present y v k = rw (here ∙ y) (ap (λ (z : ℤ). some z) (k ∙ score-at p q e i h))
+  rule-present y v k = rw (sym told ∙ y) (ap (λ (z : ℤ). some z) k)
 
   pub rule-absent : t ≡ false → none ≡ ruleScore set (getD (q .rules) i noRule)
   unfolding ruleScore
-  rule-absent n = rw (here ∙ n)
+  rule-absent n = rw (sym told ∙ n)
 
 -- ---- the present rules from rule i on
 
@@ -115,16 +110,15 @@ module _ (set : ℕ) (q : Policy) (r : PolicyInRange q) (i : ℕ) where
 
 -- ---- one turn, from rule i to rule i - 1
 
-module _ (p : StoredPolicy) (q : Policy) (e : p ≡ storedPolicy q) (set i : ℕ) (some-left : 0 < i) (inside : i ≤ p .count) (so : Present)
-    (before : so ≡ presentOf q (presentRules set (drop i (q .rules)))) where
-  pub turn-present : (v : ℤ) → some v ≡ ruleScore set (getD (q .rules) (i - 1) noRule)
-      → withScore (p .operator) so v ≡ presentOf q (presentRules set (drop (i - 1) (q .rules)))
-  turn-present v h =
-      ap (λ (o : Operator). withScore o so v) (operator-is p q e) ∙ ap (λ (x : Present). withScore (q .operator) x v) before
-      ∙ rule-counted set (q .rules) q i some-left (omega (arith, count-is p q e)) v (sym h)
+module _ (q : Policy) (set i : ℕ) (some-left : 0 < i) (inside : i ≤ length (q .rules)) (so : Present) (before : so ≡ presentOf q (presentRules set (drop i (q .rules)))) where
+  pub turn-present : (o : Operator) → o ≡ q .operator → (v : ℤ) → some v ≡ ruleScore set (getD (q .rules) (i - 1) noRule)
+      → withScore o so v ≡ presentOf q (presentRules set (drop (i - 1) (q .rules)))
+  turn-present o e v h =
+      ap (λ (p : Operator). withScore p so v) e ∙ ap (λ (x : Present). withScore (q .operator) x v) before
+      ∙ rule-counted set (q .rules) q i some-left inside v (sym h)
 
   pub turn-absent : none ≡ ruleScore set (getD (q .rules) (i - 1) noRule) → so ≡ presentOf q (presentRules set (drop (i - 1) (q .rules)))
-  turn-absent h = before ∙ rule-not-counted set (q .rules) q i some-left (omega (arith, count-is p q e)) (sym h)
+  turn-absent h = before ∙ rule-not-counted set (q .rules) q i some-left inside (sym h)
 
 -- ---- the score, from the present rules
 

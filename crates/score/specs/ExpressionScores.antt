@@ -9,7 +9,6 @@ use Rattle.peal.specs.Policies.{Policy, Expression, policyAt}
 use Rattle.peal.specs.Score.{ofTwo, policyScore, score}
 use Rattle.score.specs.Pairs.{Is}
 use Rattle.score.specs.declared.exact.Exact.{Exact}
-use Rattle.score.specs.declared.expressions.Waiting.{Waiting}
 
 -- a cell with no score
 unfoldable pub noScore : Exact
@@ -21,13 +20,13 @@ HeldBelow cells h [] = h ≡ 0
 HeldBelow cells h (v ∷ vs) = (0 < h) × Is (getD cells (h - 1) noScore) v × HeldBelow cells (h - 1) vs
 
 -- sixteen cells, of which those below the height are these scores
-abbrev pub Holds : Waiting → List ℤ → Type 0
-Holds s vs = (length (s .scores) ≡ 16) × HeldBelow (s .scores) (s .height) vs
+abbrev pub Holds : List Exact → ℕ → List ℤ → Type 0
+Holds cells h vs = (length cells ≡ 16) × HeldBelow cells h vs
 
 -- before node i of an expression: what waits is enough, and leads to the score
-pub record Underway (ps : List Policy) (set : ℕ) (e : Expression) (i : ℕ) (s : Waiting) : Type 0 where
+pub record Underway (ps : List Policy) (set : ℕ) (e : Expression) (i : ℕ) (cells : List Exact) (height : ℕ) : Type 0 where
   pub values : List ℤ
-  pub held : Holds s values
+  pub held : Holds cells height values
   pub enough : LeavesOne (drop i (postfix e)) (length values)
   pub few : length values ≤ i
   pub same : run ofTwo (λ n. policyScore set (policyAt ps n)) (drop i (postfix e)) values ≡ score ps set e ∷ []

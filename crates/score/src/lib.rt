@@ -7,10 +7,8 @@ mod policies;
 use exact::meets;
 use expressions::expression_score;
 ghost use mathlib.Core.Path.{_≡_};
-ghost use Rattle.peal.specs.Policies.{Condition as PealCondition, Book as PealBook};
 ghost use Rattle.peal.specs.Score.{decision};
 ghost use Rattle.book.specs.Ranges.{ConditionKept};
-ghost use Rattle.book.specs.Stored.{storedCondition, storedBook};
 ghost use Rattle.score.specs.Decisions.{scoredAnswer};
 ghost use Rattle.score.specs.Meaning.{scoreMeaning};
 
@@ -24,22 +22,22 @@ pub enum Decision {
     NoCondition,
 }
 
-// The condition of a book is met on the set.
-fn is_met(b: book::Book, c: book::Condition, set: u16) -> bool
-    requires { ⌜ ConditionKept b c ⌝ }
-    ensures { λ r. ⌜ ((k : PealBook) (d : PealCondition) → b ≡ storedBook k → c ≡ storedCondition d → r ≡ decision (k .policies) d set) ⌝ }
+// Condition n of a read book is met on the set.
+fn is_met(cells: &book::Cells, n: usize, set: u16) -> bool
+    requires { ⌜ ConditionKept (now cells) n ⌝ }
+    ensures { λ r. ⌜ ((h : ConditionKept (now (cells .entry)) n) → r ≡ decision (h .book .policies) (h .condition) set) ⌝ }
 {
-    let sense = c.sense;
-    let threshold = c.threshold;
-    let x = expression_score(b, c, set);
+    let sense = book::sense_at(cells, n);
+    let threshold = book::threshold_at(cells, n);
+    let x = expression_score(cells, n, set);
     meets(sense, threshold, x)
 }
 
 pub fn decide(bytes: &[u8], condition: u32, set: u16) -> Decision
     ensures { λ r. ⌜ scoreMeaning r ≡ scoredAnswer (now (bytes .entry)) condition set ⌝ }
 {
-    let r = book::read(bytes);
-    let answer = r.answer;
+    let mut cells = [0i32; 848];
+    let answer = book::read(bytes, &mut cells);
     match answer {
         book::Checked::Accepted {
             policies,
@@ -47,9 +45,7 @@ pub fn decide(bytes: &[u8], condition: u32, set: u16) -> Decision
         } => {
             let n = condition as usize;
             if n < conditions {
-                let b = r.book;
-                let c = b.conditions[n];
-                if is_met(b, c, set) {
+                if is_met(&cells, n, set) {
                     Decision::Yes
                 } else {
                     Decision::No

@@ -4,12 +4,12 @@ use crate::exact::of_product;
 use crate::exact::whole;
 ghost use mathlib.Core.Path.{_≡_};
 ghost use Prim.Native.Nat.{_^_, _≤_, _<_};
-ghost use lib.ListN.{getD};
+ghost use lib.ListN.{length, getD};
 ghost use lib.Signed.{mag};
 ghost use Rattle.peal.specs.Policies.{Policy as PealPolicy, noRule};
 ghost use Rattle.peal.specs.Score.{presentRules, policyScore};
 ghost use Rattle.book.specs.Ranges.{PolicyKept};
-ghost use Rattle.book.specs.Stored.{storedPolicy};
+ghost use Rattle.book.specs.Cells.{PolicyCells};
 ghost use Rattle.score.specs.Pairs.{Is};
 ghost use Rattle.score.specs.PolicyScores.{ruleScore, scoredMeaning, presentOf, withScore};
 
@@ -19,15 +19,15 @@ pub enum Scored {
     Absent,
 }
 
-// Rule i of the policy on the set.
-fn rule_score(p: book::Policy, i: usize, set: u16) -> Scored
-    requires { ⌜ (i < p .count) × PolicyKept p ⌝ }
-    ensures { λ r. ⌜ ((q : PealPolicy) → p ≡ storedPolicy q → scoredMeaning r ≡ ruleScore set (getD (q .rules) i noRule)) ⌝ }
+// Rule i of policy k on the set.
+fn rule_score(cells: &book::Cells, k: usize, i: usize, set: u16) -> Scored
+    requires { ⌜ ((h : PolicyKept (now cells) k) × (i < length (h .policy .rules))) ⌝ }
+    ensures { λ r. ⌜ ((q : PealPolicy) → PolicyCells (now (cells .entry)) k q → scoredMeaning r ≡ ruleScore set (getD (q .rules) i noRule)) ⌝ }
 {
-    let score = p.scores[i];
-    let value = score as i64;
-    if signals::is_present(set, p.signals[i]) {
-        Scored::Present(value)
+    let signal = book::signal_at(cells, k, i);
+    let score = book::score_at(cells, k, i);
+    if signals::is_present(set, signal) {
+        Scored::Present(score as i64)
     } else {
         Scored::Absent
     }
@@ -56,21 +56,21 @@ fn with_score(o: peal::Operator, so: Present, v: i64) -> Present
     }
 }
 
-// The rules that are present, taken from the last to the first.
-fn present_rules(p: book::Policy, set: u16) -> Present
-    requires { ⌜ PolicyKept p ⌝ }
-    ensures { λ r. ⌜ ((q : PealPolicy) → p ≡ storedPolicy q → r ≡ presentOf q (presentRules set (q .rules))) ⌝ }
+// The rules of policy k that are present, taken from the last to the first.
+fn present_rules(cells: &book::Cells, k: usize, set: u16) -> Present
+    requires { ⌜ PolicyKept (now cells) k ⌝ }
+    ensures { λ r. ⌜ ((q : PealPolicy) → PolicyCells (now (cells .entry)) k q → r ≡ presentOf q (presentRules set (q .rules))) ⌝ }
 {
-    let o = p.operator;
-    let d = p.default;
+    let o = book::operator_at(cells, k);
+    let d = book::default_at(cells, k);
     let mut so = Present {
         count: 0,
         value: d as i64,
     };
-    let mut i = p.count;
+    let mut i = book::count_at(cells, k);
     while 0 < i {
         i -= 1;
-        let s = rule_score(p, i, set);
+        let s = rule_score(cells, k, i, set);
         if let Scored::Present(v) = s {
             so = with_score(o, so, v);
         }
@@ -78,18 +78,18 @@ fn present_rules(p: book::Policy, set: u16) -> Present
     so
 }
 
-// With no rule present the default, otherwise the operator over the present rules alone.
-pub fn policy_score(p: book::Policy, set: u16) -> Exact
-    requires { ⌜ PolicyKept p ⌝ }
-    ensures { λ r. ⌜ ((q : PealPolicy) → p ≡ storedPolicy q → Is r (policyScore set q)) ⌝ }
+// The score of policy k: with no rule present the default, otherwise the operator over the present rules alone.
+pub fn policy_score(cells: &book::Cells, k: usize, set: u16) -> Exact
+    requires { ⌜ PolicyKept (now cells) k ⌝ }
+    ensures { λ r. ⌜ ((q : PealPolicy) → PolicyCells (now (cells .entry)) k q → Is r (policyScore set q)) ⌝ }
 {
-    let so = present_rules(p, set);
+    let so = present_rules(cells, k, set);
     let n = so.count;
     let value = so.value;
-    let o = p.operator;
     if n == 0 {
         return whole(value);
     }
+    let o = book::operator_at(cells, k);
     match o {
         peal::Operator::Mul => of_product(value as u64, n),
         peal::Operator::Min => whole(value),

@@ -1,16 +1,11 @@
 -- `compiler::compile`: the book's refusal, no such condition, or the condition's listing.
-use mathlib.Core.List.{[]}
 use mathlib.Core.Path.{_≡_, sym, ap, _∙_}
-use native.Mathlib.Omega.{arith}
 use borrow.Author.Needs.{needs}
 use denote.Ref.{now}
-use lib.IntN.{pos}
-use lib.ListN.{getD}
 use Rattle.answers.specs.Answers.{result}
-use Rattle.peal.specs.declared.Sense.the-variants.{Above}
 use Rattle.book.specs.Books.{checked}
 use Rattle.book.specs.Meaning.{checkedMeaning}
-use Rattle.book.proofs.AskedLaws.{IsAsked, asked-refused, asked-room, asked-none, asked-found}
+use Rattle.book.proofs.AskedLaws.{IsAsked, asked-refused, asked-none, asked-found}
 use Rattle.compiler.specs.Compiling.{returned, lentAfter}
 use Rattle.compiler.proofs.RoomLaws.{refused-answer, asked-answer}
 use Rattle.compiler.proofs.compile.Statement.{statement}
@@ -23,29 +18,16 @@ enum-known-answer : tie.Need-enum-known-answer
 enum-known-answer c = search needs
 
 -- the counts that were told
-told : (c : tie.After-answer) → result (record { policies = c .answer .given .0 .0; conditions = c .answer .given .0 .1 .0 }) ≡ checked (now (c .before .before .before .before .before .args .bytes))
+told : (c : tie.After-answer) → result (record { policies = c .answer .given .0 .0; conditions = c .answer .given .0 .1 .0 }) ≡ checked (now (c .before .before .before .before .before .before .args .bytes))
 told c = ap checkedMeaning (sym (c .answer .given .1)) ∙ c .before .before .read .ensures .0
 
-mul-c : tie.Need-mul-c
-mul-c c = search needs
-
-element-copy-out-c : tie.Need-element-copy-out-c
-element-copy-out-c c =
-    let t = c .before in
-    let a = t .before .before in
-    let s = a .before .before .before .before .before in
-    omega (arith, t .if1 .taken, asked-room (now (s .args .bytes)) (s .args .condition) _ (told a))
-
 -- the book and the condition that were asked for
-found : (c : tie.After-b) → let r = c .before .before .before .before .before in let s = r .before .before .before in
-    IsAsked (now (s .args .bytes)) (s .args .condition) (r .read .result .book)
-    (getD (r .read .result .book .conditions) (s .args .condition) (record { sense = Above; threshold = pos 0; length = 0; codes = [] }))
+found : (c : tie.Then1) → let r = c .before .before .before .before in let s = r .before .before .before .before in IsAsked (now (s .args .bytes)) (s .args .condition) (r .read .last .1 .0)
 found c =
-    let t = c .before in
-    let a = t .before .before in
+    let a = c .before .before in
     let r = a .before .before in
-    let s = r .before .before .before in
-    asked-found (now (s .args .bytes)) (s .args .condition) _ (told a) (r .read .result .book) (r .read .ensures .1) (t .if1 .taken) _
+    let s = r .before .before .before .before in
+    asked-found (now (s .args .bytes)) (s .args .condition) _ (told a) (r .read .last .1 .0) (r .read .ensures .1) (c .if1 .taken)
 
 compile-condition-requires : tie.Need-compile-condition-requires
 compile-condition-requires c κs = found (c .before .before) .kept
@@ -59,17 +41,17 @@ same-length c = search needs
 returns : tie.Need-returns
 returns c =
     let m = c .before .before in
-    let b = m .before .before .before in
-    let s = b .before .before .before .before .before .before .before .before in
+    let t = m .before .before .before in
+    let s = t .before .before .before .before .before .before .before .before in
     let w = now (s .args .words) in
-    let f = found b in
+    let f = found t in
     let same = asked-answer (now (s .args .bytes)) (s .args .condition) w (f .kept .book) (f .kept .condition) (f .told) in
     (m .compile-condition .ensures .0 (f .kept) ∙ ap returned same, m .compile-condition .ensures .1 (f .kept) ∙ ap (lentAfter w) same)
 
 returns-2 : tie.Need-returns-2
 returns-2 c =
     let a = c .before .before in
-    let s = a .before .before .before .before .before in
+    let s = a .before .before .before .before .before .before in
     refused-answer (now (s .args .bytes)) (s .args .condition) (now (s .args .words)) _ _
     (asked-none (now (s .args .bytes)) (s .args .condition) _ (told a) (c .if1 .left))
 
@@ -77,7 +59,7 @@ returns-3 : tie.Need-returns-3
 returns-3 c =
     let a = c .before in
     let r = a .before .before in
-    let s = r .before .before .before in
+    let s = r .before .before .before .before in
     refused-answer (now (s .args .bytes)) (s .args .condition) (now (s .args .words)) _ _
     (asked-refused (now (s .args .bytes)) (s .args .condition) _ _ (ap checkedMeaning (sym (a .answer2 .given .1)) ∙ r .read .ensures .0))
 
@@ -87,8 +69,6 @@ compile-spec =
     (tie.spec
     read-requires
     enum-known-answer
-    mul-c
-    element-copy-out-c
     compile-condition-requires
     enum-known-answer-2
     same-length

@@ -19,7 +19,7 @@ mul-if1 c = omega (arith, c .count-records .ensures .0)
 returns : tie.Need-returns
 returns c =
     let r = c .before in
-    let a = r .before .before .args in
+    let a = r .before .before .before .args in
     let w = now (a .words) in (
       λ h. no-room-returned (listingRecords (h .book) (h .condition)) w (omega (arith, c .if1 .taken, r .count-records .ensures .1 h)),
       λ h. no-room-lent (listingRecords (h .book) (h .condition)) w (omega (arith, c .if1 .taken, r .count-records .ensures .1 h)),
@@ -36,7 +36,7 @@ returns-2 c =
     let p = c .before .before in
     let e = p .before .before .before in
     let r = e .before in
-    let a = r .before .before .args in
+    let a = r .before .before .before .args in
     let w = now (a .words) in (
       λ h.
           ap (λ (n : ℕ). result n) (r .count-records .ensures .1 h)

@@ -12,7 +12,7 @@ use Rattle.book.proofs.acceptance.judge_condition.Statement.{statement}
 use Rattle.book.proofs.acceptance.judge_condition.Tie as tie
 
 returns : tie.Need-returns
-returns c = (λ so k e a o l d n. accept-4 n so (condition k _ e) (condition-placed so k _ e) (condition-uncounted so k _ e _ a (c .if1 .taken)), not-fine)
+returns c = (λ so k e a o d n. accept-4 n so (condition k _ e) (condition-placed so k _ e) (condition-uncounted so k _ e _ a (c .if1 .taken)), not-fine)
 
 within-requires : tie.Need-within-requires
 within-requires c κs = search needs
@@ -28,9 +28,9 @@ returns-2 c =
     let w = c .before .before in
     let s = w .before .before .before in
     let z = toZ-ofZ w32 (s .args .threshold) (s .fits .threshold) in (
-      λ so k e a o l d n.
+      λ so k e a o d n.
           accept-fine n so (condition k _ e) (condition-placed so k _ e) (condition-counted so k _ e _ a (w .before .before .if1 .left))
-          (condition-range so k _ e (sym (w .if2 .taken) ∙ w .before .within .ensures ∙ ap (within (negℤ (pos 200000)) (pos 200000)) z) _ o _ true (c .before .mentions-below .ensures e l d) (c .if3 .taken))
+          (condition-range so k _ e (sym (w .if2 .taken) ∙ w .before .within .ensures ∙ ap (within (negℤ (pos 200000)) (pos 200000)) z) _ o _ true (c .before .mentions-below .ensures e d) (c .if3 .taken))
           (condition-new so k _ e),
       λ q. w .before .before .if1 .left,
     )
@@ -40,9 +40,9 @@ returns-3 c =
     let w = c .before .before in
     let s = w .before .before .before in
     let z = toZ-ofZ w32 (s .args .threshold) (s .fits .threshold) in (
-      λ so k e a o l d n.
+      λ so k e a o d n.
           accept-5 n so (condition k _ e) (condition-placed so k _ e) (condition-counted so k _ e _ a (w .before .before .if1 .left))
-          (condition-range so k _ e (sym (w .if2 .taken) ∙ w .before .within .ensures ∙ ap (within (negℤ (pos 200000)) (pos 200000)) z) _ o _ false (c .before .mentions-below .ensures e l d) (c .if3 .left)),
+          (condition-range so k _ e (sym (w .if2 .taken) ∙ w .before .within .ensures ∙ ap (within (negℤ (pos 200000)) (pos 200000)) z) _ o _ false (c .before .mentions-below .ensures e d) (c .if3 .left)),
       not-fine,
     )
 
@@ -50,7 +50,7 @@ returns-4 : tie.Need-returns-4
 returns-4 c =
     let s = c .before .before .before in
     let z = toZ-ofZ w32 (s .args .threshold) (s .fits .threshold) in (
-      λ so k e a o l d n.
+      λ so k e a o d n.
           accept-5 n so (condition k _ e) (condition-placed so k _ e) (condition-counted so k _ e _ a (c .before .before .if1 .left))
           (threshold-out so k _ e (sym (c .if2 .left) ∙ c .before .within .ensures ∙ ap (within (negℤ (pos 200000)) (pos 200000)) z)),
       not-fine,

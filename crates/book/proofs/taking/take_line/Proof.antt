@@ -20,6 +20,9 @@ use Rattle.book.proofs.taking.take_line.Tie as tie
 default-kept : (c : tie.After-known-told2) → toZ w32 (ofZ w32 (c .before .l2 .given .0 .1 .0)) ≡ c .before .l2 .given .0 .1 .0
 default-kept c = search needs
 
+score-kept : (c : tie.After-known-told4) → toZ w32 (ofZ w32 (c .before .l4 .given .0 .1 .0)) ≡ c .before .l4 .given .0 .1 .0
+score-kept c = search needs
+
 threshold-kept : (c : tie.After-known-told5) → toZ w32 (ofZ w32 (c .before .l5 .given .0 .1 .0)) ≡ c .before .l5 .given .0 .1 .0
 threshold-kept c = search needs
 
@@ -27,13 +30,13 @@ refused-requires : tie.Need-refused-requires
 refused-requires c κs = search needs
 
 returns : tie.Need-returns
-returns c = λ n so e b. taken-long n so _ _ (c .before .if1 .taken) (c .refused .ensures)
+returns c = λ n so h. taken-long n so _ _ _ (c .before .if1 .taken) (c .refused .ensures)
 
 refused-requires-2 : tie.Need-refused-requires-2
 refused-requires-2 c κs = search needs
 
 returns-2 : tie.Need-returns-2
-returns-2 c = λ n so e b. taken-open n so _ _ (c .before .before .if1 .left) (not-true _ (c .before .if2 .taken)) (c .refused2 .ensures)
+returns-2 c = λ n so h. taken-open n so _ _ _ (c .before .before .if1 .left) (not-true _ (c .before .if2 .taken)) (c .refused2 .ensures)
 
 -- the line that is read has its end
 whole : (r : tie.After-read-line) → r .before .before .before .before .args .ended ≡ true
@@ -55,7 +58,7 @@ returns-3 : tie.Need-returns-3
 returns-3 c =
     let r = c .before .before .before in
     let s = r .before .before .before .before in
-    λ n so e b. taken-none n so _ _ (r .before .before .if1 .left) (whole r) (sym (r .read-line .ensures .0) ∙ ap (lineMeaning (s .args .line .now)) (c .before .enum-told .given .1)) (c .refused3 .ensures)
+    λ n so h. taken-none n so _ _ _ (r .before .before .if1 .left) (whole r) (sym (r .read-line .ensures .0) ∙ ap (lineMeaning (s .args .line .now)) (c .before .enum-told .given .1)) (c .refused3 .ensures)
 
 enum-known-l-2 : tie.Need-enum-known-l-2
 enum-known-l-2 c = search needs
@@ -83,7 +86,7 @@ enum-known-l-5 c = search needs
 
 read-expression-requires : tie.Need-read-expression-requires
 read-expression-requires c κs =
-    let k = c .before in
+    let k = c .before .before in
     let a = k .before .before .before in
     let r = a .before .before in
     let s = r .before .before .before .before in
@@ -91,7 +94,10 @@ read-expression-requires c κs =
     (r .before .before .if1 .left, i .0, i .1)
 
 take-condition-requires : tie.Need-take-condition-requires
-take-condition-requires c κs = search needs
+take-condition-requires c κs =
+    let p = c .before .before .before in
+    let x = expression-found _ _ _ _ (p .read-expression .ensures) (c .before .before .if3 .taken) in
+    (p .before .before .before .before .before .before .before .before .before .before .before .before .pre, p .read-expression .ensures .few (c .before .before .if3 .taken), (x .0, x .2))
 
 refused-requires-4 : tie.Need-refused-requires-4
 refused-requires-4 c κs = search needs
@@ -99,57 +105,58 @@ refused-requires-4 c κs = search needs
 returns-4 : tie.Need-returns-4
 unfolding defaultOf defaultInRange
 returns-4 c =
-    let k = c .before .before .before in
+    let k = c .before .before .before .before in
     let a = k .before .before .before in
     let r = a .before .before in
     let s = r .before .before .before .before in
     let f = sym (r .read-line .ensures .0) ∙ ap (lineMeaning (s .args .line .now)) (a .l .given .1) ∙ ap (λ (x : Line). lineMeaning (s .args .line .now) (Good x)) (k .l2 .given .1) in
-    let z = default-kept (c .before .before) in
-    λ n so e b.
-    taken-form n so _ _ (r .before .before .if1 .left) (whole r) _ f
-    (c .take-policy .ensures n so (some (k .l2 .given .0 .1 .0)) e b z (c .before .within .ensures ∙ ap (within (negℤ (pos 10000)) (pos 10000)) z))
+    let z = default-kept (c .before .before .before) in
+    λ n so h.
+    taken-form n so _ _ _ (r .before .before .if1 .left) (whole r) _ f
+    (c .take-policy .ensures n so (some (k .l2 .given .0 .1 .0)) h z (c .before .before .within .ensures ∙ ap (within (negℤ (pos 10000)) (pos 10000)) z))
 
 returns-5 : tie.Need-returns-5
 unfolding defaultOf defaultInRange
 returns-5 c =
-    let k = c .before .before in
+    let k = c .before .before .before in
     let a = k .before .before .before in
     let r = a .before .before in
     let s = r .before .before .before .before in
     let f = sym (r .read-line .ensures .0) ∙ ap (lineMeaning (s .args .line .now)) (a .l .given .1) ∙ ap (λ (x : Line). lineMeaning (s .args .line .now) (Good x)) (k .l3 .given .1) in
-    λ n so e b. taken-form n so _ _ (r .before .before .if1 .left) (whole r) _ f (c .take-policy2 .ensures n so none e b refl refl)
+    λ n so h. taken-form n so _ _ _ (r .before .before .if1 .left) (whole r) _ f (c .take-policy2 .ensures n so none h refl refl)
 
 returns-6 : tie.Need-returns-6
 returns-6 c =
-    let k = c .before .before in
+    let k = c .before .before .before in
     let a = k .before .before .before in
     let r = a .before .before in
     let s = r .before .before .before .before in
     let f = sym (r .read-line .ensures .0) ∙ ap (lineMeaning (s .args .line .now)) (a .l .given .1) ∙ ap (λ (x : Line). lineMeaning (s .args .line .now) (Good x)) (k .l4 .given .1) in
-    let z : toZ w32 (ofZ w32 (k .l4 .given .0 .1 .0)) ≡ k .l4 .given .0 .1 .0 = search needs in
-    λ n so e b. taken-form n so _ _ (r .before .before .if1 .left) (whole r) _ f (taken-rule-at n so _ _ _ _ z (c .take-rule .ensures n so e b))
+    let z = score-kept (c .before .before) in
+    λ n so h. taken-form n so _ _ _ (r .before .before .if1 .left) (whole r) _ f (taken-rule-at n so _ _ _ _ _ z (c .take-rule .ensures n so h))
 
 returns-7 : tie.Need-returns-7
 returns-7 c =
-    let k = c .before .before .before .before in
+    let p = c .before .before .before .before in
+    let k = p .before .before .before in
     let a = k .before .before .before in
     let r = a .before .before in
     let s = r .before .before .before .before in
     let f = sym (r .read-line .ensures .0) ∙ ap (lineMeaning (s .args .line .now)) (a .l .given .1) ∙ ap (λ (x : Line). lineMeaning (s .args .line .now) (Good x)) (k .l5 .given .1) in
-    let z = threshold-kept (c .before .before .before) in
-    let x = expression-found _ _ _ (c .before .before .read-expression .ensures) (c .before .if3 .taken) in
-    λ n so e b.
-    taken-form n so _ _ (r .before .before .if1 .left) (whole r) _ (f ∙ with-expression _ _ _ _ (x .found)) (taken-condition-at n so _ _ _ _ _ z (c .take-condition .ensures n so (x .tree) e b (x .count) (x .cells)))
+    let z = threshold-kept (p .before .before) in
+    let x = expression-found _ _ _ _ (p .read-expression .ensures) (c .before .before .before .if3 .taken) in
+    λ n so h.
+    taken-form n so _ _ _ (r .before .before .if1 .left) (whole r) _ (f ∙ with-expression _ _ _ _ (x .1)) (taken-condition-at n so _ _ _ _ _ _ z (c .take-condition .ensures n so (x .0) h (x .2)))
 
 returns-8 : tie.Need-returns-8
 returns-8 c =
-    let k = c .before .before .before .before in
+    let k = c .before .before .before .before .before in
     let a = k .before .before .before in
     let r = a .before .before in
     let s = r .before .before .before .before in
     let f = sym (r .read-line .ensures .0) ∙ ap (lineMeaning (s .args .line .now)) (a .l .given .1) ∙ ap (λ (x : Line). lineMeaning (s .args .line .now) (Good x)) (k .l5 .given .1) in
-    let x = expression-not-found _ _ _ (c .before .before .read-expression .ensures) (c .before .if3 .left) in
-    λ n so e b. taken-none n so _ _ (r .before .before .if1 .left) (whole r) (f ∙ with-none _ _ _ x) (c .refused4 .ensures)
+    let x = expression-not-found _ _ _ _ (c .before .before .read-expression .ensures) (c .before .if3 .left) in
+    λ n so h. taken-none n so _ _ _ (r .before .before .if1 .left) (whole r) (f ∙ with-none _ _ _ x) (c .refused4 .ensures)
 
 pub take-line-spec : {M : Type 1} → statement M
 take-line-spec =

@@ -1,49 +1,47 @@
 -- `compiler::nodes::next_lines`: the lines of an earlier node with the same code, or those that are counted.
 use Prim.Native.Nat.{_-_, _≤_, _<_}
-use mathlib.Core.Path.{_∙_}
+use mathlib.Core.Path.{sym, _∙_}
 use native.Mathlib.Omega.{arith}
 use borrow.Author.Needs.{needs}
-use Rattle.compiler.proofs.KeptNodes.{kept-length, same-lines}
+use Rattle.book.proofs.CellLaws.{condition-held, codes-few}
+use Rattle.compiler.proofs.KeptNodes.{same-lines}
 use Rattle.compiler.proofs.nodes.next_lines.Statement.{statement}
 use Rattle.compiler.proofs.nodes.next_lines.Tie as tie
 
 abbrev Inv-loop : tie.InvT-loop
-Inv-loop b i c lines code j₀ j = j ≤ i
+Inv-loop cells n lines i code j₀ j = j ≤ i
 
 abbrev μ-loop : tie.MeasureT-loop
-μ-loop b i c lines code j₀ j = i - j
+μ-loop cells n lines i code j₀ j = i - j
 
-cell : (c : tie.Start Inv-loop μ-loop) → c .args .i < 31
-cell c = omega (arith, c .pre .0, kept-length (c .args .b) (c .args .t2) (c .pre .1))
-
-mul-code : tie.Need-mul-code Inv-loop μ-loop
-mul-code c = record { fits = omega (arith, cell c) }
-
-element-copy-out-code : tie.Need-element-copy-out-code Inv-loop μ-loop
-element-copy-out-code c = cell c
+code-at-requires : tie.Need-code-at-requires Inv-loop μ-loop
+code-at-requires c κs = (c .pre .0, c .pre .1)
 
 loop-holds : tie.Need-loop-holds Inv-loop μ-loop
 loop-holds c = omega arith
 
-mul-earlier : tie.Need-mul-earlier Inv-loop μ-loop
-mul-earlier c = record { fits = omega (arith, cell (c .before .before .before), c .loop-test .taken) }
+code-at-requires-2 : tie.Need-code-at-requires-2 Inv-loop μ-loop
+code-at-requires-2 c κs = let s = c .before .before .before in (s .pre .0, omega (arith, c .loop-test .taken, s .pre .1))
 
-element-copy-out-earlier : tie.Need-element-copy-out-earlier Inv-loop μ-loop
-element-copy-out-earlier c = omega (arith, cell (c .before .before .before), c .loop-test .taken)
+-- node j is one of 31
+cell : (c : tie.In-loop Inv-loop μ-loop) → c .before .loop .j < 31
+cell c = let s = c .before .before .before in omega (arith, c .loop-test .taken, s .pre .1, codes-few (s .pre .0))
 
 mul-result : tie.Need-mul-result Inv-loop μ-loop
-mul-result c = record { fits = omega (arith, cell (c .before .before .before .before .before), c .before .before .loop-test .taken) }
+mul-result c = omega (arith, cell (c .before .before))
 
-array-read-result : tie.Need-array-read-result Inv-loop μ-loop
-array-read-result c = omega (arith, cell (c .before .before .before .before .before), c .before .before .loop-test .taken)
+element-copy-out-result : tie.Need-element-copy-out-result Inv-loop μ-loop
+element-copy-out-result c = cell (c .before .before)
 
 returns : tie.Need-returns Inv-loop μ-loop
 returns c h =
-    let w = c .before .before in
-    let s = w .before .before .before in
+    let e = c .before .before in
+    let w = e .before in
+    let f = w .before .before in
+    let s = f .before in
     let j = w .before .loop .j in
-    s .pre .2 .each h j (w .loop-test .taken)
-    ∙ same-lines (s .args .b) (s .args .t2) h (s .args .i) j (s .pre .0) (omega (arith, w .loop-test .taken, s .pre .0)) (c .if1 .taken)
+    s .pre .2 h j (w .loop-test .taken)
+    ∙ same-lines h (s .args .i) j (f .code-at .result) (f .code-at .ensures (h .condition) (condition-held h)) (sym (c .before .if1 .taken) ∙ e .code-at2 .ensures (h .condition) (condition-held h))
 
 add-j : tie.Need-add-j Inv-loop μ-loop
 add-j c = search needs
@@ -66,13 +64,11 @@ next-lines-spec =
     (tie.spec
     Inv-loop
     μ-loop
-    mul-code
-    element-copy-out-code
+    code-at-requires
     loop-holds
-    mul-earlier
-    element-copy-out-earlier
+    code-at-requires-2
     mul-result
-    array-read-result
+    element-copy-out-result
     returns
     add-j
     loop-less

@@ -3,69 +3,84 @@ use Prim.Native.Nat.{_<_}
 use mathlib.Core.Path.{_≡_, sym, _∙_}
 use native.Mathlib.Omega.{arith}
 use borrow.Author.Needs.{needs}
+use denote.Ref.{now}
 use mir.Syntax.{w32}
 use mir.Val.{SFits, toZ, ofZ}
 use mir.ValLaws.{toZ-ofZ}
-use Rattle.compiler.proofs.KeptNodes.{kept-length, no-lines, mention-small, mention-held, mention-range, threshold-fits, mention-lines}
+use Rattle.book.specs.Ranges.{ConditionKept}
+use Rattle.book.proofs.CellLaws.{condition-held, mention-held, mention-kept}
+use Rattle.compiler.proofs.KeptNodes.{size, codeAt, same-size, no-lines, mention-range, threshold-fits, mention-lines}
 use Rattle.compiler.proofs.nodes.node_lines.Statement.{statement}
 use Rattle.compiler.proofs.nodes.node_lines.Tie as tie
 
-cell : (c : tie.Start) → c .args .i < 31
-cell c = omega (arith, c .pre .0, kept-length (c .args .t1) (c .args .t2) (c .pre .1))
+-- node i is one of the condition's, whatever it is kept as
+inside : (c : tie.Start) (h : ConditionKept (now (c .args .cells)) (c .args .n)) → c .args .i < size h
+inside c h = omega (arith, c .pre .1, same-size (c .pre .0) h)
 
-mul-code : tie.Need-mul-code
-mul-code c = omega (arith, cell (c .before))
+code-at-requires : tie.Need-code-at-requires
+code-at-requires c κs = c .pre
 
-element-copy-out-code : tie.Need-element-copy-out-code
-element-copy-out-code c = cell (c .before)
+-- the code that is read
+code : (c : tie.After-code-at) (h : ConditionKept (now (c .before .args .cells)) (c .before .args .n)) → c .code-at .result ≡ codeAt h (c .before .args .i)
+code c h = c .code-at .ensures (h .condition) (condition-held h)
 
 returns : tie.Need-returns
-returns c = let s = c .before .before .before in λ h. sym (no-lines (s .args .t1) (s .args .t2) h (s .args .i) (s .pre .0) (c .if1 .taken))
+returns c = λ h. sym (no-lines h (c .before .before .args .i) (c .before .code-at .result) (code (c .before) h) (c .if1 .taken))
 
-cast-p : tie.Need-cast-p
-cast-p c = search needs
-
-sub-p : tie.Need-sub-p
-sub-p c = c .if1 .left
-
-element-copy-out-p : tie.Need-element-copy-out-p
-element-copy-out-p c = let s = c .before .before .before in mention-small (s .args .t1) (s .args .t2) (s .pre .1) (s .args .i) (s .pre .0) (c .if1 .left)
-
-mul-p : tie.Need-mul-p
-mul-p c = omega (arith, element-copy-out-p c)
+threshold-at-requires : tie.Need-threshold-at-requires
+threshold-at-requires c κs = c .before .before .pre .0
 
 -- the threshold, as it is passed
-same : (c : tie.Start) → toZ w32 (ofZ w32 (c .args .t2 .threshold)) ≡ c .args .t2 .threshold
-same c = let h : SFits w32 (c .args .t2 .threshold) = search needs in toZ-ofZ w32 (c .args .t2 .threshold) h
+same : (c : tie.After-threshold-at) → let s = c .before .before .before in
+    (h : ConditionKept (now (s .args .cells)) (s .args .n)) → toZ w32 (ofZ w32 (c .threshold-at .result)) ≡ h .condition .threshold
+same c h = let fits : SFits w32 (c .threshold-at .result) = search needs in toZ-ofZ w32 (c .threshold-at .result) fits ∙ c .threshold-at .ensures (h .condition) (condition-held h)
+
+cast-policy-at : tie.Need-cast-policy-at
+cast-policy-at c = search needs
+
+sub-policy-at : tie.Need-sub-policy-at
+sub-policy-at c = c .before .if1 .left
+
+policy-at-requires : tie.Need-policy-at-requires
+policy-at-requires c κs =
+    let e = c .before in
+    let s = e .before .before in
+    mention-kept (s .pre .0) (s .args .i) (s .pre .1) (e .before .code-at .result) (code (e .before) (s .pre .0)) (e .if1 .left)
 
 count-lines-requires : tie.Need-count-lines-requires
 count-lines-requires c κs =
-    let e = c .before in
-    let s = e .before .before .before in
-    let a = s .args in (
-      (_, mention-held (a .t1) (a .t2) (s .pre .1) (a .i) (s .pre .0) (e .if1 .left) _, mention-range (a .t1) (a .t2) (s .pre .1) (a .i) (s .pre .0) (e .if1 .left)),
-      threshold-fits (a .t1) (a .t2) (s .pre .1) (a .i) (s .pre .0) (e .if1 .left) _ (same s),
+    let e = c .before .before in
+    let s = e .before .before in
+    let h = s .pre .0 in
+    let n = e .before .code-at .result in (
+      (
+        _,
+        c .policy-at .ensures _ (mention-held h (s .args .i) (s .pre .1) n (code (e .before) h) (e .if1 .left)),
+        mention-range h (s .args .i) n (code (e .before) h) (e .if1 .left) (s .pre .1),
+      ),
+      threshold-fits h _ (same (c .before) h),
     )
 
 returns-2 : tie.Need-returns-2
 returns-2 c =
-    let e = c .before .before in
-    let s = e .before .before .before in
-    let a = s .args in
+    let p = c .before in
+    let e = p .before .before in
+    let s = e .before .before in
+    let n = e .before .code-at .result in
     λ h.
-    c .count-lines .ensures _ (mention-held (a .t1) (a .t2) h (a .i) (s .pre .0) (e .if1 .left) _) (mention-range (a .t1) (a .t2) h (a .i) (s .pre .0) (e .if1 .left))
-    ∙ sym (mention-lines (a .t1) (a .t2) h (a .i) (s .pre .0) (e .if1 .left) _ (same s))
+    c .count-lines .ensures _ (p .policy-at .ensures _ (mention-held h (s .args .i) (inside s h) n (code (e .before) h) (e .if1 .left)))
+    (mention-range h (s .args .i) n (code (e .before) h) (e .if1 .left) (inside s h))
+    ∙ sym (mention-lines h (s .args .i) n (code (e .before) h) (e .if1 .left) _ (same (p .before) h))
 
 pub node-lines-spec : {M : Type 1} → statement M
 node-lines-spec =
     tie.close
     (tie.spec
-    mul-code
-    element-copy-out-code
+    code-at-requires
     returns
-    cast-p
-    sub-p
-    mul-p
-    element-copy-out-p
+    threshold-at-requires
+    cast-policy-at
+    sub-policy-at
+    policy-at-requires
     count-lines-requires
     returns-2)

@@ -1,15 +1,12 @@
 -- `compiler::nodes::policy_kind`: 16, and the flags' weights.
-use mathlib.Core.Path.{ap, ap₂, _∙_}
+use mathlib.Core.Path.{ap₂, _∙_}
 use native.Mathlib.Omega.{arith}
 use borrow.Author.Needs.{needs}
 use lib.IntN.{ℤ}
 use mir.Syntax.{w32}
-use mir.Val.{SFits}
 use mir.ValLaws.{toZ-ofZ}
 use Rattle.layout.specs.Records.{policyKind}
 use Rattle.peal.specs.Score.{scaled, meets}
-use Rattle.peal.specs.Translation.{turned, quiet}
-use Rattle.book.proofs.StoredRules.{operator-is, default-is}
 use Rattle.compiler.proofs.MentionLaws.{byte-small, kind-of-bytes}
 use Rattle.compiler.proofs.nodes.policy_kind.Statement.{statement}
 use Rattle.compiler.proofs.nodes.policy_kind.Tie as tie
@@ -36,17 +33,14 @@ add-result-2 : tie.Need-add-result-2
 add-result-2 c = omega (arith, byte-small (c .before .is-met .result), byte-small (c .is-turned .result))
 
 returns : tie.Need-returns
-unfolding quiet
 returns c =
     let m = c .before in
-    let a = m .before .before .args in
-    let h : SFits w32 (a .p .default) = search needs in
-    let t : SFits w32 (a .t) = m .before .before .fits .t in
-    λ q e.
+    let s = m .before in
+    let a = s .args in
     kind-of-bytes (m .is-met .result) (c .is-turned .result)
     ∙ ap₂ policyKind
-    (m .is-met .ensures ∙ ap₂ (λ (x y : ℤ). meets (a .sense) x (scaled y)) (toZ-ofZ w32 (a .t) t) (toZ-ofZ w32 (a .p .default) h ∙ default-is (a .p) q e))
-    (c .is-turned .ensures ∙ ap (turned (a .sense)) (operator-is (a .p) q e))
+    (m .is-met .ensures ∙ ap₂ (λ (x y : ℤ). meets (a .sense) x (scaled y)) (toZ-ofZ w32 (a .t) (s .fits .t)) (toZ-ofZ w32 (a .d) (s .fits .d)))
+    (c .is-turned .ensures)
 
 pub policy-kind-spec : {M : Type 1} → statement M
 policy-kind-spec =

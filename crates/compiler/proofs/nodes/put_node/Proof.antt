@@ -1,6 +1,7 @@
 -- `compiler::nodes::put_node`: a join's record, or a mention's.
 use Prim.Native.Nat.{_+_, _<_}
-use mathlib.Core.Path.{_≡_, sym, ap, _∙_}
+use mathlib.Core.Bool.{Bool}
+use mathlib.Core.Path.{_≡_, sym, ap, ap₂, _∙_}
 use native.Mathlib.Omega.{arith}
 use borrow.Author.Needs.{needs}
 use denote.Ref.{now}
@@ -9,63 +10,84 @@ use mir.Syntax.{w32}
 use mir.Val.{SFits, toZ, ofZ}
 use mir.ValLaws.{toZ-ofZ}
 use Rattle.layout.specs.Nodes.{ListedNode}
+use Rattle.book.specs.Ranges.{ConditionKept}
+use Rattle.book.proofs.CellLaws.{condition-held, codes-few}
 use Rattle.compiler.specs.Putting.{putRecords}
 use Rattle.compiler.specs.Nodes.{oneNode}
-use Rattle.compiler.proofs.KeptNodes.{kept-length, join-here, mention-small, mention-here, lines-kept}
+use Rattle.compiler.proofs.KeptNodes.{size, codeAt, same-size, join-here, mention-here, lines-kept}
 use Rattle.compiler.proofs.nodes.put_node.Statement.{statement}
 use Rattle.compiler.proofs.nodes.put_node.Tie as tie
 
-cell : (c : tie.Start) → c .args .i < 31
-cell c = omega (arith, c .pre .0, kept-length (c .args .t1) (c .args .t2) (c .pre .3))
+sense-at-requires : tie.Need-sense-at-requires
+sense-at-requires c κs = c .before .pre .3 .0
 
-mul-code : tie.Need-mul-code
-mul-code c = omega (arith, cell (c .before .before))
+code-at-requires : tie.Need-code-at-requires
+code-at-requires c κs = c .before .before .pre .3
 
-element-copy-out-code : tie.Need-element-copy-out-code
-element-copy-out-code c = cell (c .before .before)
+length-at-requires : tie.Need-length-at-requires
+length-at-requires c κs = c .before .before .before .pre .3 .0
+
+-- what is read of the condition, whatever it is kept as
+module _ (c : tie.After-length-at) where
+  abbrev start : tie.Start
+  start = c .before .before .before .before
+
+  module _ (h : ConditionKept (now (start .args .cells)) (start .args .n)) where
+    sense : c .before .before .sense-at .result ≡ h .condition .sense
+    sense = c .before .before .sense-at .ensures (h .condition) (condition-held h)
+
+    code : c .before .code-at .result ≡ codeAt h (start .args .i)
+    code = c .before .code-at .ensures (h .condition) (condition-held h)
+
+    more : ltb (start .args .i + 1) (c .length-at .result) ≡ ltb (start .args .i + 1) (size h)
+    more = ap (ltb (start .args .i + 1)) (c .length-at .ensures (h .condition) (condition-held h))
+
+    inside : start .args .i < size h
+    inside = omega (arith, start .pre .3 .1, same-size (start .pre .3 .0) h)
 
 add-more : tie.Need-add-more
-add-more c = search needs
+add-more c = let k = start c .pre .3 in omega (arith, k .1, codes-few (k .0))
 
 put-join-requires : tie.Need-put-join-requires
 put-join-requires c κs = search needs
 
-cast-p : tie.Need-cast-p
-cast-p c = search needs
+threshold-at-requires : tie.Need-threshold-at-requires
+threshold-at-requires c κs = start (c .before) .pre .3 .0
 
-sub-p : tie.Need-sub-p
-sub-p c = c .if1 .left
+cast-put-policy : tie.Need-cast-put-policy
+cast-put-policy c = search needs
 
-element-copy-out-p : tie.Need-element-copy-out-p
-element-copy-out-p c = let s = c .before .before .before .before in mention-small (s .args .t1) (s .args .t2) (s .pre .3) (s .args .i) (s .pre .0) (c .if1 .left)
-
-mul-p : tie.Need-mul-p
-mul-p c = omega (arith, element-copy-out-p c)
+sub-put-policy : tie.Need-sub-put-policy
+sub-put-policy c = c .before .if1 .left
 
 -- the threshold, as it is passed
-same : (c : tie.Start) → toZ w32 (ofZ w32 (c .args .t2 .threshold)) ≡ c .args .t2 .threshold
-same c = let h : SFits w32 (c .args .t2 .threshold) = search needs in toZ-ofZ w32 (c .args .t2 .threshold) h
+same : (c : tie.After-threshold-at) → let s = start (c .before .before) in
+    (h : ConditionKept (now (s .args .cells)) (s .args .n)) → toZ w32 (ofZ w32 (c .threshold-at .result)) ≡ h .condition .threshold
+same c h = let fits : SFits w32 (c .threshold-at .result) = search needs in toZ-ofZ w32 (c .threshold-at .result) fits ∙ c .threshold-at .ensures (h .condition) (condition-held h)
 
 put-policy-requires : tie.Need-put-policy-requires
 put-policy-requires c κs =
-    let e = c .before .before in
-    let s = e .before .before .before .before in
-    let a = s .args in
-    (s .pre .1, s .pre .2, lines-kept (a .t1) (a .t2) (s .pre .3) (a .i) (s .pre .0) (e .if1 .left) _ (same s) _ (a .count) (s .pre .4 (s .pre .3)))
+    let t = c .before in
+    let e = t .before in
+    let r = e .before in
+    let s = start r in
+    let k = s .pre .3 in
+    (s .pre .0, s .pre .1, lines-kept (k .0) (s .args .i) (r .before .code-at .result) (code r (k .0)) (e .if1 .left) (k .1) _ (same t (k .0)) (s .args .count) (s .pre .2 (k .0)))
 
 same-length : tie.Need-same-length
 same-length c = search needs
 
 returns : tie.Need-returns
 returns c =
-    let r = c .before .before in
-    let t = r .before .before in
-    let s = t .before .before .before .before in
+    let j = c .before .before in
+    let e = j .before .before in
+    let r = e .before in
+    let s = start r in
     let a = s .args in
     λ h.
-    let j = join-here (a .t1) (a .t2) h (a .i) (s .pre .0) (t .if1 .taken) in
-    r .put-join .ensures (j .0) (j .1)
-    ∙ ap (λ (x : ListedNode). putRecords (now (a .words)) (a .at) (oneNode (a .at) (ltb (a .i + 1) (a .t2 .length)) x)) (sym (j .2))
+    let m = join-here h (a .i) (r .before .code-at .result) (code r h) (e .if1 .taken) _ (sense r h) in
+    j .put-join .ensures (m .0) (m .1)
+    ∙ ap₂ (λ (b : Bool) (x : ListedNode). putRecords (now (a .words)) (a .at) (oneNode (a .at) b x)) (more r h) (sym (m .2))
 
 same-length-2 : tie.Need-same-length-2
 same-length-2 c = search needs
@@ -73,27 +95,29 @@ same-length-2 c = search needs
 returns-2 : tie.Need-returns-2
 unfolding lines-kept
 returns-2 c =
-    let r = c .before .before in
-    let e = r .before .before .before in
-    let s = e .before .before .before .before in
+    let p = c .before .before in
+    let t = p .before .before in
+    let e = t .before in
+    let r = e .before in
+    let s = start r in
     let a = s .args in
+    let n = r .before .code-at .result in
     λ h.
-    r .put-policy .ensures (lines-kept (a .t1) (a .t2) h (a .i) (s .pre .0) (e .if1 .left) _ (same s) _ (a .count) (s .pre .4 h))
-    ∙ ap (λ (x : ListedNode). putRecords (now (a .words)) (a .at) (oneNode (a .at) (ltb (a .i + 1) (a .t2 .length)) x))
-    (sym (mention-here (a .t1) (a .t2) h (a .i) (s .pre .0) (e .if1 .left) _ (same s)))
+    p .put-policy .ensures (lines-kept h (a .i) n (code r h) (e .if1 .left) (inside r h) _ (same t h) (a .count) (s .pre .2 h))
+    ∙ ap₂ (λ (b : Bool) (x : ListedNode). putRecords (now (a .words)) (a .at) (oneNode (a .at) b x)) (more r h) (sym (mention-here h (a .i) n (code r h) (e .if1 .left) _ _ (sense r h) (same t h)))
 
 pub put-node-spec : {M : Type 1} → statement M
 put-node-spec =
     tie.close
     (tie.spec
-    mul-code
-    element-copy-out-code
+    sense-at-requires
+    code-at-requires
+    length-at-requires
     add-more
     put-join-requires
-    cast-p
-    sub-p
-    mul-p
-    element-copy-out-p
+    threshold-at-requires
+    cast-put-policy
+    sub-put-policy
     put-policy-requires
     same-length
     returns

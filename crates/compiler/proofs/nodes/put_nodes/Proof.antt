@@ -5,79 +5,83 @@ use native.Mathlib.Omega.{arith}
 use denote.Ref.{now}
 use lib.ListN.{length, getD}
 use Rattle.book.specs.Ranges.{ConditionKept}
-use Rattle.compiler.proofs.KeptNodes.{kept-length, lines-few}
+use Rattle.book.proofs.CellLaws.{condition-held, codes-few}
+use Rattle.compiler.proofs.KeptNodes.{size, lines-few}
 use Rattle.compiler.proofs.TurnLaws.{WrittenTo, put-start, put-turn, put-end}
 use Rattle.compiler.proofs.nodes.put_nodes.Statement.{statement}
 use Rattle.compiler.proofs.nodes.put_nodes.Tie as tie
 
 abbrev Inv-loop : tie.InvT-loop
-Inv-loop b c words₀ lines n at₀ i₀ words at i =
-    (i ≤ n) × (0 < at) × (at ≤ 1 + i * 65537) × (length words ≡ length words₀) × ((h : ConditionKept b c) → WrittenTo b c h i at words₀ words)
+Inv-loop cells n lines words₀ all at₀ i₀ words at i =
+    (i ≤ all) × (0 < at) × (at ≤ 1 + i * 65537) × (length words ≡ length words₀) × ((h : ConditionKept cells n) → WrittenTo h i at words₀ words)
 
 abbrev μ-loop : tie.MeasureT-loop
-μ-loop b c words₀ lines n at₀ i₀ words at i = n - i
+μ-loop cells n lines words₀ all at₀ i₀ words at i = all - i
+
+length-at-requires : tie.Need-length-at-requires Inv-loop μ-loop
+length-at-requires c κs = c .before .pre .0
 
 loop-holds : tie.Need-loop-holds Inv-loop μ-loop
-loop-holds c = let a = c .before .args in (omega arith, omega arith, omega arith, refl, λ h. put-start (a .b) (a .c) h (now (a .words)))
+loop-holds c = (omega arith, omega arith, omega arith, refl, λ h. put-start h (now (c .before .before .args .words)))
 
 -- node i is one of 31, and its lines are few
-cell : (c : tie.In-loop Inv-loop μ-loop) → c .before .loop .i < 31
-cell c =
-    let l = c .before in
-    let s = l .before .before in
-    omega (arith, c .loop-test .taken, kept-length (s .args .b) (s .args .c) (s .pre .0))
+module _ (c : tie.In-loop Inv-loop μ-loop) where
+  abbrev turn : tie.At-loop Inv-loop μ-loop
+  turn = c .before
 
-few : (c : tie.In-loop Inv-loop μ-loop) → let l = c .before in getD (l .before .before .args .t3) (l .loop .i) 0 ≤ 65536
-few c =
-    let l = c .before in
-    let s = l .before .before in
-    let k = s .pre .0 in
-    omega (arith, s .pre .1 .each k (l .loop .i) (c .loop-test .taken), lines-few (s .args .b) (s .args .c) k (l .loop .i) (c .loop-test .taken))
+  abbrev start : tie.Start Inv-loop μ-loop
+  start = turn .before .before .before
+
+  inside : (h : ConditionKept (now (start .args .cells)) (start .args .n)) → turn .loop .i < size h
+  inside h = omega (arith, c .loop-test .taken, turn .before .length-at .ensures (h .condition) (condition-held h))
+
+  cell : turn .loop .i < 31
+  cell = omega (arith, inside (start .pre .0), codes-few (start .pre .0))
+
+  few : getD (now (start .args .lines)) (turn .loop .i) 0 ≤ 65536
+  few = let k = start .pre .0 in omega (arith, start .pre .1 k (turn .loop .i) (inside k), lines-few k (turn .loop .i) (inside k))
 
 mul-count : tie.Need-mul-count Inv-loop μ-loop
 mul-count c = omega (arith, cell c)
 
-array-read-count : tie.Need-array-read-count Inv-loop μ-loop
-array-read-count c = cell c
+element-copy-out-count : tie.Need-element-copy-out-count Inv-loop μ-loop
+element-copy-out-count c = cell c
 
 put-node-requires : tie.Need-put-node-requires Inv-loop μ-loop
 put-node-requires c κs =
-    let w = c .before in
-    let l = w .before in
-    let s = l .before .before in (
-      w .loop-test .taken,
+    let w = c .before .before in
+    let l = turn w in
+    let s = start w in (
       l .loop .inv .1,
       omega (arith, l .loop .inv .2, cell w),
-      s .pre .0,
-      λ h. s .pre .1 .each h (l .loop .i) (w .loop-test .taken),
+      λ h. s .pre .1 h (l .loop .i) (inside w h),
+      (s .pre .0, inside w (s .pre .0)),
     )
 
 add-at : tie.Need-add-at Inv-loop μ-loop
-add-at c = omega (arith, few (c .before .before .before .before))
+add-at c = omega (arith, few (c .before .before .before .before .before))
 
 add-at-2 : tie.Need-add-at-2 Inv-loop μ-loop
-add-at-2 c = let w = c .before .before .before .before in omega (arith, few w, cell w, w .before .loop .inv .2)
+add-at-2 c = let w = c .before .before .before .before .before in omega (arith, few w, cell w, turn w .loop .inv .2)
 
 add-i : tie.Need-add-i Inv-loop μ-loop
-add-i c = omega (arith, cell (c .before .before .before .before))
+add-i c = omega (arith, cell (c .before .before .before .before .before))
 
 loop-less : tie.Need-loop-less Inv-loop μ-loop
-loop-less c = omega (arith, c .before .before .before .before .loop-test .taken)
+loop-less c = omega (arith, c .before .before .before .before .before .loop-test .taken)
 
 loop-again : tie.Need-loop-again Inv-loop μ-loop
 loop-again c =
     let r = c .before .before in
-    let w = r .before .before in
-    let l = w .before in
-    let s = l .before .before in (
+    let w = r .before .before .before in
+    let l = turn w in
+    let s = start w in (
       omega (arith, w .loop-test .taken),
       omega arith,
       omega (arith, few w, l .loop .inv .2),
       r .put-node .kept .1 .1 .1 .1 .0 ∙ l .loop .inv .3,
       λ h.
-          put-turn (s .args .b) (s .args .c) h (l .loop .i) (w .loop-test .taken) _ (s .pre .1 .each h (l .loop .i) (w .loop-test .taken)) (l .loop .at) (now (s .args .words)) (l .loop .words) _
-          (r .put-node .ensures h)
-          (l .loop .inv .4 h),
+          put-turn h (l .loop .i) (inside w h) _ (s .pre .1 h (l .loop .i) (inside w h)) (l .loop .at) (now (s .args .words)) (l .loop .words) _ (r .put-node .ensures h) (l .loop .inv .4 h),
     )
 
 same-length : tie.Need-same-length Inv-loop μ-loop
@@ -86,8 +90,9 @@ same-length c = c .before .loop .inv .3
 returns : tie.Need-returns Inv-loop μ-loop
 returns c =
     let l = c .before in
-    let s = l .before .before in
-    λ h. put-end (s .args .b) (s .args .c) h (l .loop .i) (c .loop-test .left) (l .loop .at) (now (s .args .words)) (l .loop .words) (l .loop .inv .4 h)
+    let s = l .before .before .before in
+    λ h.
+    put-end h (l .loop .i) (omega (arith, c .loop-test .left, l .before .length-at .ensures (h .condition) (condition-held h))) (l .loop .at) (now (s .args .words)) (l .loop .words) (l .loop .inv .4 h)
 
 pub put-nodes-spec : {M : Type 1} → statement M
 put-nodes-spec =
@@ -95,9 +100,10 @@ put-nodes-spec =
     (tie.spec
     Inv-loop
     μ-loop
+    length-at-requires
     loop-holds
     mul-count
-    array-read-count
+    element-copy-out-count
     put-node-requires
     add-at
     add-at-2

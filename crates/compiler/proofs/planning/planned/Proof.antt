@@ -1,7 +1,7 @@
 -- `compiler::planning::planned`: the rows up to k are written, with the limit of k rules and the operator over the k rules of lowest rank.
 use Prim.Native.Nat.{ℕ, _+_, _-_, _^_, _≤_, _<_}
 use mathlib.Core.List.{[], _∷_}
-use mathlib.Core.Path.{_≡_, refl, sym, ap, subst, _∙_}
+use mathlib.Core.Path.{_≡_, sym, ap, subst, _∙_}
 use native.Mathlib.Omega.{arith}
 use borrow.Author.Needs.{needs}
 use lib.IntN.{ℤ, pos}
@@ -15,8 +15,8 @@ use Rattle.signals.specs.Sets.{setOf}
 use Rattle.peal.specs.Policies.{Rule, Policy, noRule}
 use Rattle.peal.specs.Combining.{combinedOf}
 use Rattle.peal.specs.declared.Operator.{Operator}
-use Rattle.book.specs.Stored.{storedPolicy}
-use Rattle.book.specs.declared.stored.Policy.{Policy as StoredPolicy}
+use Rattle.book.specs.Cells.{storedPolicy}
+use Rattle.book.specs.declared.cells.Policy.{Policy as StoredPolicy}
 use Rattle.book.proofs.StoredRules.{count-is, operator-is, signal-at, score-at}
 use Rattle.compiler.specs.Worth.{start, worth, limitOf}
 use Rattle.compiler.specs.Planning.{ThresholdFits, restOf, nextRule, Row}
@@ -37,7 +37,7 @@ abbrev μ-loop : tie.MeasureT-loop
 
 -- the start, and where a turn of the loop begins
 abbrev first : tie.At-loop Inv-loop μ-loop → tie.Start Inv-loop μ-loop
-first l = l .before .before .before .before .before .before
+first l = l .before .before .before .before .before
 
 back : (s : tie.Start Inv-loop μ-loop) → toZ w32 (ofZ w32 (s .args .t)) ≡ s .args .t
 back s = toZ-ofZ w32 (s .args .t) (s .fits .t)
@@ -51,16 +51,12 @@ first-limit-requires c κs = tt
 start-requires : tie.Need-start-requires Inv-loop μ-loop
 start-requires c κs = tt
 
-slice-aggregate-put-row : tie.Need-slice-aggregate-put-row Inv-loop μ-loop
-slice-aggregate-put-row c = refl
-
 put-row-requires : tie.Need-put-row-requires Inv-loop μ-loop
-put-row-requires c κs = (omega arith, refl)
+put-row-requires c κs = omega arith
 
 loop-holds : tie.Need-loop-holds Inv-loop μ-loop
 loop-holds c =
-    let w = c .before in
-    let b = w .before .before in
+    let b = c .before .before in
     let f = b .before in
     let p = f .before .args .t1 in
     let T = toZ w32 (ofZ w32 (f .before .args .t)) in
@@ -71,13 +67,13 @@ loop-holds c =
     let limit-is : limit ≡ limitOf (p .operator) T 0 = toZ-ofZ w64 (f .first-limit .result) limit-fits ∙ f .first-limit .ensures in
     let rest-is : (q : Policy) → p ≡ storedPolicy q → rest ≡ worth (q .operator) (restOf 0 (q .rules)) =
     λ q e. toZ-ofZ w64 (b .start .result) rest-fits ∙ b .start .ensures ∙ ap start (operator-is p q e) ∙ rest-start (q .operator) (q .rules) in (
-      ap length (w .put-row .ensures) ∙ row-length (replicate 68 (pos 0)) 0 limit rest (pos 0) (pos 0),
+      ap length (c .put-row .ensures) ∙ row-length (replicate 68 (pos 0)) 0 limit rest (pos 0) (pos 0),
       omega arith,
       limit-is,
       rest-is,
       λ q e j h.
           rows-more (replicate 68 (pos 0)) 0 limit rest (pos 0) (pos 0) q T (omega arith) (limit-is ∙ ap (λ (o : Operator). limitOf o T 0) (operator-is p q e)) (rest-is q e)
-          (λ m. absurd (omega arith)) (λ m. absurd (omega arith)) (w .put-row .ensures) (λ i m. absurd (omega arith)) j h,
+          (λ m. absurd (omega arith)) (λ m. absurd (omega arith)) (c .put-row .ensures) (λ i m. absurd (omega arith)) j h,
     )
 
 -- ---- a turn
@@ -174,13 +170,10 @@ combined-requires c κs =
     subst (λ (z : ℤ). mag z ≤ 10 ^ 16) (sym (rest-is g (h .policy) (h .held)))
     (worth-small (h .policy .operator) (restOf (k g) (h .policy .rules)) (range-rest (h .policy .operator) (h .policy .rules) (k g) (h .range)))
 
-slice-aggregate-put-row-2 : tie.Need-slice-aggregate-put-row-2 Inv-loop μ-loop
-slice-aggregate-put-row-2 c = sym (turn (c .before .before .before .before) .loop .inv .0)
-
 put-row-requires-2 : tie.Need-put-row-requires-2 Inv-loop μ-loop
 put-row-requires-2 c κs =
     let g = c .before .before .before .before in
-    (omega (arith, room (s g), g .before .before .loop-test .taken), turn g .loop .inv .0)
+    omega (arith, room (s g), g .before .before .loop-test .taken)
 
 -- the row is written
 module _ (c : tie.After-put-row2 Inv-loop μ-loop) where
@@ -226,11 +219,10 @@ module _ (c : tie.After-put-row2 Inv-loop μ-loop) where
         (c .put-row2 .ensures) (λ i m. turn with-score .loop .inv .4 q e i (omega arith))
 
 loop-less : tie.Need-loop-less Inv-loop μ-loop
-loop-less c = omega (arith, with-score (c .before) .before .before .loop-test .taken)
+loop-less c = omega (arith, with-score c .before .before .loop-test .taken)
 
 loop-again : tie.Need-loop-again Inv-loop μ-loop
-loop-again c =
-    let w = c .before in
+loop-again w =
     let g = with-score w in (
       ap length (w .put-row2 .ensures) ∙ row-length (turn g .loop .plan) (k g) (limit w) (rest w) (score g) (toZ w64 (with-bit w .bit .result)) ∙ turn g .loop .inv .0,
       omega (arith, g .before .before .loop-test .taken),
@@ -247,7 +239,6 @@ returns c q e r =
       operator = operator-is (s .args .t1) q e;
       range = r;
       fits = s .pre .1;
-      long = l .loop .inv .0;
       rows =
           λ k h.
           subst (λ (t : ℤ). Row (l .loop .plan) q t k) (back s)
@@ -262,7 +253,6 @@ planned-spec =
     μ-loop
     first-limit-requires
     start-requires
-    slice-aggregate-put-row
     put-row-requires
     loop-holds
     add-k
@@ -276,7 +266,6 @@ planned-spec =
     cast-bit
     next-limit-requires
     combined-requires
-    slice-aggregate-put-row-2
     put-row-requires-2
     loop-less
     loop-again

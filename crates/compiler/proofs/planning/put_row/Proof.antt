@@ -1,19 +1,10 @@
 -- `compiler::planning::put_row`: the cells of a row lie inside the plan.
-use native.Mathlib.Omega.{arith}
 use borrow.Author.Needs.{needs}
-use denote.Ref.{now}
-use lib.IntN.{ℤ}
 use mir.Syntax.{w64}
-use mir.Val.{toZ, ofZ}
 use mir.ValLaws.{toZ-ofZ}
 use Rattle.compiler.specs.Planning.{withRow}
-use Rattle.compiler.proofs.RowLaws.{one-length, two-length, three-length, row-length}
 use Rattle.compiler.proofs.planning.put_row.Statement.{statement}
 use Rattle.compiler.proofs.planning.put_row.Tie as tie
-
--- what is written, as it is read back
-abbrev back : ℤ → ℤ
-back z = toZ w64 (ofZ w64 z)
 
 mul-limit : tie.Need-mul-limit
 mul-limit c = search needs
@@ -21,8 +12,8 @@ mul-limit c = search needs
 mul-limit-2 : tie.Need-mul-limit-2
 mul-limit-2 c = search needs
 
-slice-set-from-limit : tie.Need-slice-set-from-limit
-slice-set-from-limit c = omega (arith, c .pre)
+element-set-from-limit : tie.Need-element-set-from-limit
+element-set-from-limit c = search needs
 
 mul-rest : tie.Need-mul-rest
 mul-rest c = search needs
@@ -33,8 +24,8 @@ add-rest c = search needs
 mul-rest-2 : tie.Need-mul-rest-2
 mul-rest-2 c = search needs
 
-slice-set-from-rest : tie.Need-slice-set-from-rest
-slice-set-from-rest c = let a = c .args in omega (arith, c .pre, one-length (now (a .plan)) (a .k) (back (a .limit)) (back (a .rest)) (back (a .score)) (back (a .bit)))
+element-set-from-rest : tie.Need-element-set-from-rest
+element-set-from-rest c = search needs
 
 mul-score : tie.Need-mul-score
 mul-score c = search needs
@@ -45,8 +36,8 @@ add-score c = search needs
 mul-score-2 : tie.Need-mul-score-2
 mul-score-2 c = search needs
 
-slice-set-from-score : tie.Need-slice-set-from-score
-slice-set-from-score c = let a = c .args in omega (arith, c .pre, two-length (now (a .plan)) (a .k) (back (a .limit)) (back (a .rest)) (back (a .score)) (back (a .bit)))
+element-set-from-score : tie.Need-element-set-from-score
+element-set-from-score c = search needs
 
 mul-bit : tie.Need-mul-bit
 mul-bit c = search needs
@@ -57,12 +48,8 @@ add-bit c = search needs
 mul-bit-2 : tie.Need-mul-bit-2
 mul-bit-2 c = search needs
 
-slice-set-from-bit : tie.Need-slice-set-from-bit
-slice-set-from-bit c = let a = c .args in omega (arith, c .pre, three-length (now (a .plan)) (a .k) (back (a .limit)) (back (a .rest)) (back (a .score)) (back (a .bit)))
-
-same-length : tie.Need-same-length
-unfolding withRow
-same-length c = let a = c .args in row-length (now (a .plan)) (a .k) (back (a .limit)) (back (a .rest)) (back (a .score)) (back (a .bit))
+element-set-from-bit : tie.Need-element-set-from-bit
+element-set-from-bit c = search needs
 
 returns : tie.Need-returns
 unfolding withRow
@@ -81,18 +68,17 @@ put-row-spec =
     (tie.spec
     mul-limit
     mul-limit-2
-    slice-set-from-limit
+    element-set-from-limit
     mul-rest
     add-rest
     mul-rest-2
-    slice-set-from-rest
+    element-set-from-rest
     mul-score
     add-score
     mul-score-2
-    slice-set-from-score
+    element-set-from-score
     mul-bit
     add-bit
     mul-bit-2
-    slice-set-from-bit
-    same-length
+    element-set-from-bit
     returns)

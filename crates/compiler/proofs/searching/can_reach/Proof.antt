@@ -10,46 +10,46 @@ use lib.Signed.{mag}
 use mir.Syntax.{w64}
 use mir.Val.{SFits, toZ, ofZ}
 use mir.ValLaws.{toZ-ofZ}
-use Rattle.compiler.proofs.SearchingLaws.{taken-few, taken-fits, all-small, all-tell}
+use Rattle.compiler.proofs.SearchingLaws.{taken-few, all-small, all-tell}
 use Rattle.compiler.proofs.searching.can_reach.Statement.{statement}
 use Rattle.compiler.proofs.searching.can_reach.Tie as tie
 
 -- of what is asked for
-few : (s : tie.Start) → s .args .x .count + s .args .left ≤ 16
+few : (s : tie.Start) → s .args .count + s .args .left ≤ 16
 few s = taken-few (s .pre .3)
 
-value-back : (s : tie.Start) → toZ w64 (ofZ w64 (s .args .x .value)) ≡ s .args .x .value
-value-back s = toZ-ofZ w64 (s .args .x .value) (taken-fits (s .pre .3))
+value-back : (s : tie.Start) → toZ w64 (ofZ w64 (s .args .value)) ≡ s .args .value
+value-back s = toZ-ofZ w64 (s .args .value) (s .fits .value)
 
 add-all : tie.Need-add-all
-add-all c = record { fits = omega (arith, few (c .before)) }
+add-all c = record { fits = omega (arith, few c) }
 
 mul-limit : tie.Need-mul-limit
-mul-limit c = record { fits = omega (arith, few (c .before)) }
+mul-limit c = record { fits = omega (arith, few c) }
 
 mul-limit-2 : tie.Need-mul-limit-2
-mul-limit-2 c = record { fits = omega (arith, few (c .before)) }
+mul-limit-2 c = record { fits = omega (arith, few c) }
 
-shared-slice-copy-out-limit : tie.Need-shared-slice-copy-out-limit
-shared-slice-copy-out-limit c = omega (arith, few (c .before), c .before .pre .3 .planned .long)
+element-copy-out-limit : tie.Need-element-copy-out-limit
+element-copy-out-limit c = omega (arith, few c)
 
 mul-rest : tie.Need-mul-rest
-mul-rest c = record { fits = omega (arith, few (c .before .before)) }
+mul-rest c = record { fits = omega (arith, few (c .before)) }
 
 add-rest : tie.Need-add-rest
-add-rest c = record { fits = omega (arith, few (c .before .before)) }
+add-rest c = record { fits = omega (arith, few (c .before)) }
 
 mul-rest-2 : tie.Need-mul-rest-2
-mul-rest-2 c = record { fits = omega (arith, few (c .before .before)) }
+mul-rest-2 c = record { fits = omega (arith, few (c .before)) }
 
-shared-slice-copy-out-rest : tie.Need-shared-slice-copy-out-rest
-shared-slice-copy-out-rest c = let s = c .before .before in omega (arith, few s, s .pre .3 .planned .long)
+element-copy-out-rest : tie.Need-element-copy-out-rest
+element-copy-out-rest c = omega (arith, few (c .before))
 
 combined-requires : tie.Need-combined-requires
 combined-requires c κs =
-    let s = c .before .before .before .before in
+    let s = c .before .before in
     all-small (s .pre .3) (value-back s)
-    (toZ-ofZ w64 (getD (now (s .args .plan)) (s .args .left * 4 + 1) (pos 0)) (record { sfits = c .before .rest .given }))
+    (toZ-ofZ w64 (getD (now (s .args .plan)) (s .args .left * 4 + 1) (pos 0)) (record { sfits = c .rest .given }))
 
 is-reached-requires : tie.Need-is-reached-requires
 is-reached-requires c κs =
@@ -59,13 +59,13 @@ is-reached-requires c κs =
 returns : tie.Need-returns
 returns c q t X h =
     let d = c .before in
-    let r = d .before .before in
-    let s = r .before .before .before in
+    let r = d .before in
+    let s = r .before .before in
     let fits : SFits w64 (d .combined .result) = search needs in
     c .is-reached .ensures
     ∙ all-tell h (value-back s)
     (toZ-ofZ w64 (getD (now (s .args .plan)) (s .args .left * 4 + 1) (pos 0)) (record { sfits = r .rest .given }))
-    (toZ-ofZ w64 (getD (now (s .args .plan)) ((s .args .x .count + s .args .left) * 4) (pos 0)) (record { sfits = r .before .limit .given }))
+    (toZ-ofZ w64 (getD (now (s .args .plan)) ((s .args .count + s .args .left) * 4) (pos 0)) (record { sfits = r .before .limit .given }))
     (toZ-ofZ w64 (d .combined .result) fits ∙ d .combined .ensures)
 
 pub can-reach-spec : {M : Type 1} → statement M
@@ -75,11 +75,11 @@ can-reach-spec =
     add-all
     mul-limit
     mul-limit-2
-    shared-slice-copy-out-limit
+    element-copy-out-limit
     mul-rest
     add-rest
     mul-rest-2
-    shared-slice-copy-out-rest
+    element-copy-out-rest
     combined-requires
     is-reached-requires
     returns)

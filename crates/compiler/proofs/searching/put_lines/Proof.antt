@@ -4,31 +4,29 @@ use mathlib.Core.Bool.{Bool, true, false}
 use mathlib.Core.List.{List, [], _∷_, map}
 use mathlib.Core.Path.{_≡_, sym, ap, subst, _∙_}
 use native.Mathlib.Omega.{arith}
+use borrow.Author.Needs.{needs}
 use denote.Ref.{now}
 use lib.IntN.{ℤ}
 use lib.ListN.{length}
-use mir.Syntax.{w32}
-use mir.Val.{toZ, ofZ}
+use mir.Syntax.{w32, w64}
+use mir.Val.{SFits, toZ, ofZ}
 use mir.ValLaws.{toZ-ofZ}
 use Rattle.signals.specs.Sets.{setOf}
 use Rattle.peal.specs.Policies.{Rule, Policy}
 use Rattle.peal.specs.Having.{has}
 use Rattle.peal.specs.Lines.{lines}
-use Rattle.peal.specs.Search.{foundSets}
 use Rattle.peal.specs.Translation.{maskOf}
-use Rattle.peal.proofs.LineLaws.{search-finds-lines}
 use Rattle.book.specs.Ranges.{PolicyInRange}
-use Rattle.book.specs.Stored.{storedPolicy}
-use Rattle.book.specs.declared.stored.Policy.{Policy as StoredPolicy}
-use Rattle.book.proofs.ScoreSizes.{range-fits}
+use Rattle.book.specs.Cells.{storedPolicy}
+use Rattle.book.specs.declared.cells.Policy.{Policy as StoredPolicy}
 use Rattle.book.proofs.StoredRules.{count-is, kept-count}
 use Rattle.compiler.specs.Putting.{putRecords, linesUpTo}
-use Rattle.compiler.specs.RankOrder.{withRules, inRankOrder}
+use Rattle.compiler.specs.RankOrder.{inRankOrder}
 use Rattle.compiler.specs.Planning.{ThresholdFits, PlanFor}
-use Rattle.compiler.specs.Searching.{Searching, CanSearch, found}
+use Rattle.compiler.specs.Searching.{Searching, Masked, CanSearch, found}
 use Rattle.compiler.proofs.PuttingLaws.{put-length, puts-length}
 use Rattle.compiler.proofs.RankOrderLaws.{ranked-in-range}
-use Rattle.compiler.proofs.SearchingLaws.{none-coming, beginning, all-found, found-few, found-itself}
+use Rattle.compiler.proofs.SearchingLaws.{none-coming, beginning, found-few, found-lines, found-itself}
 use Rattle.compiler.proofs.searching.put_lines.Statement.{statement}
 use Rattle.compiler.proofs.searching.put_lines.Tie as tie
 
@@ -46,11 +44,11 @@ planned-requires c κs =
       subst ThresholdFits (sym (back s)) (s .pre .3),
     )
 
-none-taken-requires : tie.Need-none-taken-requires
-none-taken-requires c κs = tt
+start-requires : tie.Need-start-requires
+start-requires c κs = tt
 
 -- the search begins
-module _ (c : tie.After-none-taken) where
+module _ (c : tie.After-start) where
   abbrev s : tie.Start
   s = c .before .before .before .before
 
@@ -63,6 +61,9 @@ module _ (c : tie.After-none-taken) where
   abbrev plan : List ℤ
   plan = c .before .planned .result
 
+  abbrev value : ℤ
+  value = toZ w64 (ofZ w64 (c .start .result))
+
   module _ (q : Policy) (e : s .args .p ≡ storedPolicy q) (r : PolicyInRange q) where
     abbrev ranked : Policy
     ranked = inRankOrder q
@@ -73,36 +74,31 @@ module _ (c : tie.After-none-taken) where
     plan-for : PlanFor (p .operator) plan ranked T
     plan-for = c .before .planned .ensures ranked held (ranked-in-range q r)
 
-    begun : Searching (p .operator) plan (c .none-taken .result) (p .count) ranked T []
-    begun = beginning plan-for (count-is p ranked held) (c .none-taken .ensures)
+    begun : Masked (p .operator) plan 0 0 value (p .count) ranked T []
+    begun =
+        let fits : SFits w64 (c .start .result) = search needs in
+        beginning plan-for (count-is p ranked held) (toZ-ofZ w64 (c .start .result) fits ∙ c .start .ensures)
 
-    tested : Searching (p .operator) plan (c .none-taken .result) 0 ranked T []
-    tested = none-coming begun
+    tested : Searching (p .operator) plan 0 value 0 ranked T []
+    tested = none-coming (begun .searching)
 
     few : length (found ranked T [] (p .count)) ≤ 65536
-    few = found-few plan-for (count-is p ranked held)
+    few = found-few (begun .searching)
 
     -- what is found, as document 01 has it
     are-lines : found ranked T [] (p .count) ≡ lines (q .operator) (s .args .t) (q .rules)
-    unfolding inRankOrder withRules
-    are-lines =
-        all-found plan-for (count-is p ranked held)
-        ∙ ap (λ (t : ℤ). foundSets (has (q .operator) t) (ranked .rules)) (back s)
-        ∙ search-finds-lines (q .operator) (s .args .t) (q .rules) (range-fits (q .operator) (q .rules) (r .scores) (r .room))
+    are-lines = found-lines q r plan-for (count-is p ranked held) ∙ ap (λ (t : ℤ). lines (q .operator) t (q .rules)) (back s)
 
   -- of the policy that is asked for
-  abbrev lent : (68 ≡ length plan) × CanSearch (p .operator) plan (c .none-taken .result) 0
-  lent = let k = s .pre .2 in (sym (plan-for (k .0) (k .1) (k .2) .long), (inRankOrder (k .0), T, [], tested (k .0) (k .1) (k .2)))
-
-slice-aggregate-has-reached : tie.Need-slice-aggregate-has-reached
-slice-aggregate-has-reached c = lent (c .before) .0
+  abbrev lent : CanSearch (p .operator) plan 0 value 0
+  lent = let k = s .pre .2 in (inRankOrder (k .0), T, [], tested (k .0) (k .1) (k .2))
 
 has-reached-requires : tie.Need-has-reached-requires
-has-reached-requires c κs = lent (c .before) .1
+has-reached-requires c κs = lent (c .before)
 
 -- whether the empty set has the property
 module _ (c : tie.After-has-reached) (b : Bool) (answer : c .has-reached .result ≡ b) where
-  abbrev none : tie.After-none-taken
+  abbrev none : tie.After-start
   none = c .before .before
 
   empty-has : (q : Policy) → s none .args .p ≡ storedPolicy q → PolicyInRange q → has (inRankOrder q .operator) (T none) [] ≡ b
@@ -136,9 +132,6 @@ returns c =
 
 -- ---- it has not: the search goes on from it
 
-slice-aggregate-search : tie.Need-slice-aggregate-search
-slice-aggregate-search c = lent (c .before .before .before .before) .0
-
 search-requires : tie.Need-search-requires
 search-requires c κs =
     let h = c .before .before .before in
@@ -161,7 +154,7 @@ module _ (c : tie.After-search) where
   abbrev tried : tie.After-has-reached
   tried = c .before .before .before .before
 
-  abbrev begin : tie.After-none-taken
+  abbrev begin : tie.After-start
   begin = tried .before .before
 
   module _ (q : Policy) (e : s begin .args .p ≡ storedPolicy q) (r : PolicyInRange q) where
@@ -173,7 +166,7 @@ module _ (c : tie.After-search) where
         c .search .ensures .0 (inRankOrder q) (T begin) [] (begun begin q e r) lacks
         ∙ ap (λ (F : List (List Rule)). s begin .args .at + length F) (are-lines begin q e r)
 
-    words : c .search .last .1 .1 .1 .1 .0
+    words : c .search .last .1 .1 .1 .1 .1 .1 .0
         ≡ putRecords (now (s begin .args .words)) (s begin .args .at) (linesUpTo (s begin .args .last) (s begin .args .at) (map maskOf (lines (q .operator) (s begin .args .t) (q .rules))))
     words =
         c .search .ensures .1 (inRankOrder q) (T begin) [] (begun begin q e r) lacks
@@ -195,14 +188,12 @@ put-lines-spec =
     (tie.spec
     in-rank-order-requires
     planned-requires
-    none-taken-requires
-    slice-aggregate-has-reached
+    start-requires
     has-reached-requires
     put-line-requires
     add-result
     same-length
     returns
-    slice-aggregate-search
     search-requires
     same-length-2
     returns-2)

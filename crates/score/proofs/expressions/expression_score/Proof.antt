@@ -1,171 +1,200 @@
 -- `score::expressions::expression_score`: before node i the waiting scores lead to the score of the expression.
-use Prim.Native.Nat.{_+_, _-_, _≤_, _<_}
+use Prim.Native.Nat.{ℕ, _+_, _-_, _≤_, _<_}
+use mathlib.Core.List.{List, _∷_}
 use mathlib.Core.Logic.{⊎-elim}
-use mathlib.Core.Path.{_≡_, sym, subst}
+use mathlib.Core.Path.{_≡_, refl, sym, subst₂}
 use native.Mathlib.Omega.{arith}
 use borrow.Author.Needs.{needs}
-use lib.ListN.{length, getD}
-use Rattle.peal.specs.Policies.{Condition, Book, policyAt}
-use Rattle.book.specs.Stored.{storedCondition, storedBook}
-use Rattle.book.proofs.RangeLaws.{policy-in-range}
-use Rattle.book.proofs.StoredLaws.{opened-is, policy-at}
-use Rattle.book.proofs.StoredNodes.{nodes-are, nodes-few, mention-below}
-use Rattle.score.specs.ExpressionScores.{Underway}
+use denote.Ref.{now}
+use lib.Dec.{eqb}
+use lib.ListN.{length, set, drop}
+use Rattle.arith.specs.Trees.{value, joining, postfix}
+use Rattle.peal.specs.Policies.{Policy, Expression}
+use Rattle.book.specs.Codes.{codesOf}
+use Rattle.book.specs.Ranges.{ConditionKept}
+use Rattle.book.proofs.CellLaws.{condition-held, codes-few, mention-held, mention-kept}
+use Rattle.book.proofs.CodeLaws.{codes-nodes}
+use Rattle.score.specs.Pairs.{choiceMeaning}
+use Rattle.score.specs.ExpressionScores.{noScore, Underway}
+use Rattle.score.specs.declared.exact.Exact.{Exact}
 use Rattle.score.proofs.NodeLaws.{join-here, value-here, at-start, value-room, after-value, join-room, after-join, at-end}
 use Rattle.score.proofs.expressions.expression_score.Statement.{statement}
 use Rattle.score.proofs.expressions.expression_score.Tie as tie
 
 abbrev Inv-loop : tie.InvT-loop
-Inv-loop set b c n s₀ i₀ s i =
-    (i ≤ n) × ((k : Book) (d : Condition) → b ≡ storedBook k → c ≡ storedCondition d → Underway (k .policies) set (d .expression) i s)
+Inv-loop cells n set all scores₀ height₀ i₀ scores height i =
+    (i ≤ all) × ((h : ConditionKept cells n) → Underway (h .book .policies) set (h .condition .expression) i scores height)
 
 abbrev μ-loop : tie.MeasureT-loop
-μ-loop set b c n s₀ i₀ s i = n - i
+μ-loop cells n set all scores₀ height₀ i₀ scores height i = all - i
 
-none-waiting-requires : tie.Need-none-waiting-requires Inv-loop μ-loop
-none-waiting-requires c κs = search needs
+length-at-requires : tie.Need-length-at-requires Inv-loop μ-loop
+length-at-requires c κs = c .pre
+
+whole-requires : tie.Need-whole-requires Inv-loop μ-loop
+whole-requires c κs = search needs
 
 loop-holds : tie.Need-loop-holds Inv-loop μ-loop
-loop-holds c = (omega arith, λ k d e f. at-start (k .policies) (c .before .args .set) (d .expression) (c .none-waiting .result) (c .none-waiting .ensures))
+loop-holds c = (omega arith, λ h. at-start (h .book .policies) (c .before .before .args .set) (h .condition .expression) _ refl)
 
--- the codes are at most 31
-codes-few : (c : tie.Start Inv-loop μ-loop) → c .args .t2 .length ≤ 31
-codes-few c = nodes-few (c .args .t2) (c .pre .condition) (c .pre .conditionHeld) (c .pre .conditionRange .mentionsRoom)
+-- how many codes there are
+module _ (l : tie.At-loop Inv-loop μ-loop) where
+  abbrev start : tie.Start Inv-loop μ-loop
+  start = l .before .before .before
 
-mul-code : tie.Need-mul-code Inv-loop μ-loop
-mul-code c = omega (arith, c .loop-test .taken, codes-few (c .before .before .before))
+  codes : (h : ConditionKept (now (start .args .cells)) (start .args .n)) → l .before .before .length-at .result ≡ length (codesOf (h .condition .expression))
+  codes h = l .before .before .length-at .ensures (h .condition) (condition-held h)
 
-element-copy-out-code : tie.Need-element-copy-out-code Inv-loop μ-loop
-element-copy-out-code c = omega (arith, c .loop-test .taken, codes-few (c .before .before .before))
+  few : l .before .before .length-at .result ≤ 31
+  few = omega (arith, codes (start .pre), codes-few (start .pre))
 
-with-join-requires : tie.Need-with-join-requires Inv-loop μ-loop
-with-join-requires c κs =
-    let w = c .before .before in
-    let l = w .before in
-    let a = l .before .before in
-    let k = a .pre in
-    let n = nodes-are (a .args .t2) (k .condition) (k .conditionHeld) in
-    join-room (k .book .policies) (a .args .set) (k .condition .expression) (l .loop .i) (l .loop .s) (l .loop .inv .1 (k .book) (k .condition) (k .bookHeld) (k .conditionHeld))
-    _ (join-here (a .args .t2) (k .condition) (k .conditionHeld) (l .loop .i) (w .loop-test .taken) (c .if1 .taken))
-    (omega (arith, n, w .loop-test .taken)) (omega (arith, n, codes-few a))
+code-at-requires : tie.Need-code-at-requires Inv-loop μ-loop
+code-at-requires c κs = let l = c .before in (start l .pre, omega (arith, c .loop-test .taken, codes l (start l .pre)))
 
-cast-p : tie.Need-cast-p Inv-loop μ-loop
-cast-p c = search needs
+-- at a join: two scores wait at least
+module _ (c : tie.Then1 Inv-loop μ-loop) where
+  abbrev turn : tie.At-loop Inv-loop μ-loop
+  turn = c .before .before .before
 
-sub-p : tie.Need-sub-p Inv-loop μ-loop
-sub-p c = c .if1 .left
+  joined : (h : ConditionKept (now (start turn .args .cells)) (start turn .args .n))
+      → drop (turn .loop .i) (postfix (h .condition .expression))
+      ≡ joining (choiceMeaning (eqb (c .before .code-at .result) 1)) ∷ drop (turn .loop .i + 1) (postfix (h .condition .expression))
+  joined h =
+      join-here (h .condition .expression) (turn .loop .i) (omega (arith, c .before .before .loop-test .taken, codes turn h)) (c .before .code-at .result)
+      (c .before .code-at .ensures (h .condition) (condition-held h)) (c .if1 .taken)
 
--- a mention is of a policy of the book
-mentioned : (c : tie.Else1 Inv-loop μ-loop) → let l = c .before .before .before in let a = l .before .before in getD (a .args .t2 .codes) (l .loop .i) 0 < a .args .t1 .opened + 2
-mentioned c =
-    let w = c .before .before in
-    let l = w .before in
-    let a = l .before .before in
-    let k = a .pre in
-    omega (
-      arith,
-      opened-is (a .args .t1) (k .book) (k .bookHeld),
-      mention-below (a .args .t2) (k .condition) (k .conditionHeld) (l .loop .i) (w .loop-test .taken) (length (k .book .policies)) (k .conditionRange .mentions),
-    )
+  two-wait : (2 ≤ turn .loop .height) × (turn .loop .height ≤ 16)
+  two-wait =
+      let h = start turn .pre in
+      join-room (h .book .policies) (start turn .args .set) (h .condition .expression) (turn .loop .i) (turn .loop .scores) (turn .loop .height) (turn .loop .inv .1 h) _ (joined h)
+      (omega (arith, c .before .before .loop-test .taken, codes turn h, codes-nodes (h .condition .expression))) (omega (arith, few turn, codes turn h, codes-nodes (h .condition .expression)))
 
-opened-few : (c : tie.Start Inv-loop μ-loop) → c .args .t1 .opened ≤ 16
-opened-few c = let k = c .pre in omega (arith, opened-is (c .args .t1) (k .book) (k .bookHeld), k .bookRange .policiesRoom)
+sub-one : tie.Need-sub-one Inv-loop μ-loop
+sub-one c = two-wait c .0
 
-mul-p : tie.Need-mul-p Inv-loop μ-loop
-mul-p c = omega (arith, c .if1 .left, mentioned c, opened-few (c .before .before .before .before .before))
+mul-one : tie.Need-mul-one Inv-loop μ-loop
+mul-one c = omega (arith, two-wait c)
 
-element-copy-out-p : tie.Need-element-copy-out-p Inv-loop μ-loop
-element-copy-out-p c = omega (arith, c .if1 .left, mentioned c, opened-few (c .before .before .before .before .before))
+array-copy-out-one : tie.Need-array-copy-out-one Inv-loop μ-loop
+array-copy-out-one c = omega (arith, two-wait c)
+
+sub-two : tie.Need-sub-two Inv-loop μ-loop
+sub-two c = omega (arith, two-wait (c .before))
+
+mul-two : tie.Need-mul-two Inv-loop μ-loop
+mul-two c = omega (arith, two-wait (c .before))
+
+array-copy-out-two : tie.Need-array-copy-out-two Inv-loop μ-loop
+array-copy-out-two c = omega (arith, two-wait (c .before))
+
+chosen-requires : tie.Need-chosen-requires Inv-loop μ-loop
+chosen-requires c κs = search needs
+
+sub-scores : tie.Need-sub-scores Inv-loop μ-loop
+sub-scores c = omega (arith, two-wait (c .before .before .before))
+
+mul-scores : tie.Need-mul-scores Inv-loop μ-loop
+mul-scores c = omega (arith, two-wait (c .before .before .before))
+
+array-set-from-scores : tie.Need-array-set-from-scores Inv-loop μ-loop
+array-set-from-scores c = omega (arith, two-wait (c .before .before .before))
+
+sub-height : tie.Need-sub-height Inv-loop μ-loop
+sub-height c = omega (arith, two-wait (c .before .before .before))
+
+-- at a mention: there is room for one score more
+module _ (c : tie.Else1 Inv-loop μ-loop) where
+  abbrev round : tie.At-loop Inv-loop μ-loop
+  round = c .before .before .before
+
+  mentioned : (h : ConditionKept (now (start round .args .cells)) (start round .args .n))
+      → drop (round .loop .i) (postfix (h .condition .expression)) ≡ value (c .before .code-at .result - 2) ∷ drop (round .loop .i + 1) (postfix (h .condition .expression))
+  mentioned h =
+      value-here (h .condition .expression) (round .loop .i) (omega (arith, c .before .before .loop-test .taken, codes round h)) (c .before .code-at .result)
+      (c .before .code-at .ensures (h .condition) (condition-held h)) (c .if1 .left)
+
+  room : round .loop .height < 16
+  room =
+      let h = start round .pre in
+      value-room (h .book .policies) (start round .args .set) (h .condition .expression) (round .loop .i) (round .loop .scores) (round .loop .height) (round .loop .inv .1 h) _ (mentioned h)
+      (omega (arith, c .before .before .loop-test .taken, codes round h, codes-nodes (h .condition .expression))) (omega (arith, few round, codes round h, codes-nodes (h .condition .expression)))
+
+cast-policy-score : tie.Need-cast-policy-score Inv-loop μ-loop
+cast-policy-score c = search needs
+
+sub-policy-score : tie.Need-sub-policy-score Inv-loop μ-loop
+sub-policy-score c = c .if1 .left
 
 policy-score-requires : tie.Need-policy-score-requires Inv-loop μ-loop
 policy-score-requires c κs =
-    let e = c .before in
-    let a = e .before .before .before .before .before in
-    let k = a .pre in
-    let l = e .before .before .before in
-    let m = getD (a .args .t2 .codes) (l .loop .i) 0 - 2 in
-    let inside : m < a .args .t1 .opened = omega (arith, e .if1 .left, mentioned e) in (
-      policyAt (k .book .policies) m,
-      policy-at (a .args .t1) (k .book) (k .bookHeld) m _ inside,
-      policy-in-range (k .book) (k .bookRange) m (omega (arith, opened-is (a .args .t1) (k .book) (k .bookHeld))),
-    )
+    let l = round c in
+    let h = start l .pre in
+    mention-kept h (l .loop .i) (omega (arith, c .before .before .loop-test .taken, codes l h)) (c .before .code-at .result) (c .before .code-at .ensures (h .condition) (condition-held h)) (c .if1 .left)
 
-with-value-requires : tie.Need-with-value-requires Inv-loop μ-loop
-with-value-requires c κs =
-    let e = c .before .before in
-    let w = e .before .before in
-    let l = w .before in
-    let a = l .before .before in
-    let k = a .pre in
-    let n = nodes-are (a .args .t2) (k .condition) (k .conditionHeld) in
-    value-room (k .book .policies) (a .args .set) (k .condition .expression) (l .loop .i) (l .loop .s) (l .loop .inv .1 (k .book) (k .condition) (k .bookHeld) (k .conditionHeld))
-    _ (value-here (a .args .t2) (k .condition) (k .conditionHeld) (l .loop .i) (w .loop-test .taken) (e .if1 .left))
-    (omega (arith, n, w .loop-test .taken)) (omega (arith, n, codes-few a))
+mul-scores-2 : tie.Need-mul-scores-2 Inv-loop μ-loop
+mul-scores-2 c = omega (arith, room (c .before))
+
+array-set-from-scores-2 : tie.Need-array-set-from-scores-2 Inv-loop μ-loop
+array-set-from-scores-2 c = room (c .before)
+
+add-height : tie.Need-add-height Inv-loop μ-loop
+add-height c = omega (arith, room (c .before))
 
 add-i : tie.Need-add-i Inv-loop μ-loop
-add-i c = let w = c .before .before in omega (arith, w .loop-test .taken, codes-few (w .before .before .before))
+add-i c = let w = c .before .before in omega (arith, w .loop-test .taken, few (w .before))
 
 loop-less : tie.Need-loop-less Inv-loop μ-loop
 loop-less c = omega (arith, c .before .before .loop-test .taken)
 
--- the next node, behind a join and behind a mention
-behind-join : (c : tie.After-with-join Inv-loop μ-loop) → let l = c .before .before .before .before in let a = l .before .before in
-    (k : Book) (d : Condition) → a .args .t1 ≡ storedBook k → a .args .t2 ≡ storedCondition d
-    → Underway (k .policies) (a .args .set) (d .expression) (l .loop .i + 1) (c .with-join .result)
-behind-join c k d e f =
-    let w = c .before .before .before in
-    let l = w .before in
-    let a = l .before .before in
-    after-join (k .policies) (a .args .set) (d .expression) (l .loop .i) (l .loop .s) (l .loop .inv .1 k d e f)
-    _ (join-here (a .args .t2) d f (l .loop .i) (w .loop-test .taken) (c .before .if1 .taken)) (c .with-join .result) (c .with-join .ensures)
+-- what waits, as it is after either branch
+next : {ps : List Policy} {m : ℕ} {e : Expression} {i : ℕ} {s t : List Exact} {h k : ℕ} → s ≡ t → h ≡ k → Underway ps m e i s h → Underway ps m e i t k
+next {ps = ps} {m = m} {e = e} {i = i} p q u = subst₂ (Underway ps m e i) p q u
 
-behind-mention : (c : tie.After-with-value Inv-loop μ-loop) → let l = c .before .before .before .before .before .before in let a = l .before .before in
-    (k : Book) (d : Condition) → a .args .t1 ≡ storedBook k → a .args .t2 ≡ storedCondition d
-    → Underway (k .policies) (a .args .set) (d .expression) (l .loop .i + 1) (c .with-value .result)
-behind-mention c k d e f =
-    let g = c .before .before .before in
-    let w = g .before .before in
-    let l = w .before in
-    let a = l .before .before in
-    let m = getD (a .args .t2 .codes) (l .loop .i) 0 - 2 in
-    let inside : m < a .args .t1 .opened = omega (arith, g .if1 .left, mentioned g) in
-    after-value (k .policies) (a .args .set) (d .expression) (l .loop .i) (l .loop .s) (l .loop .inv .1 k d e f)
-    m (value-here (a .args .t2) d f (l .loop .i) (w .loop-test .taken) (g .if1 .left)) (c .with-value .result)
-    (λ vs h. c .with-value .ensures _ vs (c .before .policy-score .ensures (policyAt (k .policies) m) (policy-at (a .args .t1) k e m _ inside)) h)
+-- the next node, behind a join and behind a mention
+behind-join : (c : tie.After-chosen Inv-loop μ-loop) → let l = turn (c .before .before .before) in
+    (h : ConditionKept (now (start l .args .cells)) (start l .args .n))
+    → Underway (h .book .policies) (start l .args .set) (h .condition .expression) (l .loop .i + 1) (set (l .loop .scores) (l .loop .height - 2) (c .chosen .result)) (l .loop .height - 1)
+unfolding noScore
+behind-join c h =
+    let t = c .before .before .before in
+    let l = turn t in
+    after-join (h .book .policies) (start l .args .set) (h .condition .expression) (l .loop .i) (l .loop .scores) (l .loop .height) (l .loop .inv .1 h) _ (joined t h) (two-wait t .0) (two-wait t .1)
+    (c .chosen .result) (c .chosen .ensures)
+
+behind-mention : (c : tie.After-policy-score Inv-loop μ-loop) → let l = round (c .before) in
+    (h : ConditionKept (now (start l .args .cells)) (start l .args .n))
+    → Underway (h .book .policies) (start l .args .set) (h .condition .expression) (l .loop .i + 1) (set (l .loop .scores) (l .loop .height) (c .policy-score .result)) (l .loop .height + 1)
+behind-mention c h =
+    let e = c .before in
+    let l = round e in
+    after-value (h .book .policies) (start l .args .set) (h .condition .expression) (l .loop .i) (l .loop .scores) (l .loop .height) (l .loop .inv .1 h) _ (mentioned e h) (room e)
+    (c .policy-score .result)
+    (c .policy-score .ensures _
+    (mention-held h (l .loop .i) (omega (arith, e .before .before .loop-test .taken, codes l h)) (e .before .code-at .result) (e .before .code-at .ensures (h .condition) (condition-held h)) (e .if1 .left)))
 
 loop-again : tie.Need-loop-again Inv-loop μ-loop
 loop-again c =
-    let w = c .before .before in
-    let l = w .before in
-    let a = l .before .before in (
+    let w = c .before .before in (
       omega (arith, w .loop-test .taken),
-      λ k d e f.
+      λ h.
           ⊎-elim
           (λ x.
-          subst (Underway (k .policies) (a .args .set) (d .expression) (l .loop .i + 1)) (sym (x .2))
-          (behind-join (record { before = record { before = c .before; if1 = x .0 }; with-join = x .1 }) k d e f))
-          (λ x.
-          subst (Underway (k .policies) (a .args .set) (d .expression) (l .loop .i + 1)) (sym (x .4))
-          (behind-mention
-          (record { before = record { before = record { before = record { before = c .before; if1 = x .0 }; p = x .1 }; policy-score = x .2 }; with-value = x .3 })
-          k
-          d
-          e
-          f))
+          next (sym (x .4)) (sym (x .5))
+          (behind-join (record { before = record { before = record { before = record { before = c .before; if1 = x .0 }; one = x .1 }; two = x .2 }; chosen = x .3 }) h))
+          (λ x. next (sym (x .2)) (sym (x .3)) (behind-mention (record { before = record { before = c .before; if1 = x .0 }; policy-score = x .1 }) h))
           (c .if1 .came),
     )
 
-last-score-requires : tie.Need-last-score-requires Inv-loop μ-loop
-last-score-requires c κs = search needs
+array-copy-out-result : tie.Need-array-copy-out-result Inv-loop μ-loop
+array-copy-out-result c = search needs
 
 returns : tie.Need-returns Inv-loop μ-loop
+unfolding noScore
 returns c =
     let l = c .before .before in
-    let a = l .before .before in
-    λ k d e f.
-    c .last-score .ensures _
-    (at-end (k .policies) (a .args .set) (d .expression) (l .loop .i) (l .loop .s) (l .loop .inv .1 k d e f)
-    (omega (arith, nodes-are (a .args .t2) d f, c .before .loop-test .left)))
+    λ h.
+    at-end (h .book .policies) (start l .args .set) (h .condition .expression) (l .loop .i) (l .loop .scores) (l .loop .height) (l .loop .inv .1 h)
+    (omega (arith, codes l h, codes-nodes (h .condition .expression), c .before .loop-test .left))
 
 pub expression-score-spec : {M : Type 1} → statement M
 expression-score-spec =
@@ -173,19 +202,29 @@ expression-score-spec =
     (tie.spec
     Inv-loop
     μ-loop
-    none-waiting-requires
+    length-at-requires
+    whole-requires
     loop-holds
-    mul-code
-    element-copy-out-code
-    with-join-requires
-    cast-p
-    sub-p
-    mul-p
-    element-copy-out-p
+    code-at-requires
+    sub-one
+    mul-one
+    array-copy-out-one
+    sub-two
+    mul-two
+    array-copy-out-two
+    chosen-requires
+    sub-scores
+    mul-scores
+    array-set-from-scores
+    sub-height
+    cast-policy-score
+    sub-policy-score
     policy-score-requires
-    with-value-requires
+    mul-scores-2
+    array-set-from-scores-2
+    add-height
     add-i
     loop-less
     loop-again
-    last-score-requires
+    array-copy-out-result
     returns)

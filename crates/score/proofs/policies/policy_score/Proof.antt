@@ -11,7 +11,6 @@ use mir.ValLaws.{toZ-ofZ}
 use Rattle.peal.specs.Score.{scaled}
 use Rattle.score.specs.Pairs.{Is}
 use Rattle.score.proofs.PolicyLaws.{applied-min, applied-max, applied-sum, natural-fits}
-use Rattle.book.proofs.StoredRules.{operator-is}
 use Rattle.score.proofs.RuleLaws.{none-present, whole-score, product-score, product-natural, product-few}
 use Rattle.score.proofs.policies.policy_score.Statement.{statement}
 use Rattle.score.proofs.policies.policy_score.Tie as tie
@@ -38,27 +37,32 @@ returns c =
     (ap scaled (value-back t) ∙ none-present (s .args .set) q (r .present-rules .result) (r .present-rules .ensures q e) (c .before .if1 .taken))
     (c .whole .ensures)
 
+operator-at-requires : tie.Need-operator-at-requires
+operator-at-requires c κs = search needs
+
 enum-told : tie.Need-enum-told
 enum-told c = search needs
 
 -- in mul the value is a natural
 module _ (c : tie.After-enum-told) where
-  natural : let e = c .before .before in let r = e .before .before .present-rules .result in
+  natural : let e = c .before .before .before in let r = e .before .before .present-rules .result in
       (n : ℕ) × (toZ w64 (ofZ w64 (r .value)) ≡ pos n) × (n ≤ 100 ^ r .count) × (r .count ≤ 8)
   natural =
-      let e = c .before .before in
+      let p = c .before .before in
+      let e = p .before in
       let r = e .before .before in
       let s = r .before in
-      let q = s .pre .0 in
-      let o = sym (operator-is (s .args .p) q (s .pre .1)) ∙ c .enum-told .given .1 in
-      let t = r .present-rules .ensures q (s .pre .1) in
-      let n = product-natural (s .args .set) q (r .present-rules .result) t (e .if1 .left) (s .pre .2) o in
-      (n .0, value-back (e .before) ∙ n .1, n .2, product-few (s .args .set) q (r .present-rules .result) t (s .pre .2) o)
+      let h = s .pre in
+      let q = h .policy in
+      let o = sym (p .operator-at .ensures q (h .held)) ∙ c .enum-told .given .1 in
+      let t = r .present-rules .ensures q (h .held) in
+      let n = product-natural (s .args .set) q (r .present-rules .result) t (e .if1 .left) (h .range) o in
+      (n .0, value-back (e .before) ∙ n .1, n .2, product-few (s .args .set) q (r .present-rules .result) t (h .range) o)
 
 cast-of-product : tie.Need-cast-of-product
 cast-of-product c =
     let n = natural c in
-    natural-fits (toZ w64 (ofZ w64 (c .before .before .before .before .present-rules .result .value))) (n .0) (n .1)
+    natural-fits (toZ w64 (ofZ w64 (c .before .before .before .before .before .present-rules .result .value))) (n .0) (n .1)
     (le-trans (n .2) (pow-le-pow-right {n = 100} (omega arith) {j = 8} (n .3)))
 
 of-product-requires : tie.Need-of-product-requires
@@ -85,7 +89,8 @@ whole-requires-4 c κs = search needs
 returns-2 : tie.Need-returns-2
 returns-2 c =
     let m = c .before in
-    let e = m .before .before in
+    let p = m .before .before in
+    let e = p .before in
     let r = e .before .before in
     let s = r .before in
     let n = natural m in
@@ -94,40 +99,43 @@ returns-2 c =
     subst (Is (c .of-product .result))
     (ap (λ (z : ℤ). pos (natAbs z) *ℤ pos (100 ^ (8 - v .count))) (n .1)
     ∙ ap (λ (z : ℤ). z *ℤ pos (100 ^ (8 - v .count))) (sym (n .1) ∙ value-back (e .before))
-    ∙ product-score (s .args .set) q v (r .present-rules .ensures q h) (e .if1 .left) (sym (operator-is (s .args .p) q h) ∙ m .enum-told .given .1))
+    ∙ product-score (s .args .set) q v (r .present-rules .ensures q h) (e .if1 .left) (sym (p .operator-at .ensures q h) ∙ m .enum-told .given .1))
     (c .of-product .ensures)
 
 returns-3 : tie.Need-returns-3
 returns-3 c =
     let m = c .before in
-    let e = m .before .before in
+    let p = m .before .before in
+    let e = p .before in
     let r = e .before .before in
     let s = r .before in
     λ q h.
     subst (Is (c .whole2 .result))
-    (ap scaled (value-back (e .before)) ∙ whole-score (s .args .set) q (r .present-rules .result) (r .present-rules .ensures q h) (e .if1 .left) _ (sym (operator-is (s .args .p) q h) ∙ m .enum-told2 .given .1) applied-min)
+    (ap scaled (value-back (e .before)) ∙ whole-score (s .args .set) q (r .present-rules .result) (r .present-rules .ensures q h) (e .if1 .left) _ (sym (p .operator-at .ensures q h) ∙ m .enum-told2 .given .1) applied-min)
     (c .whole2 .ensures)
 
 returns-4 : tie.Need-returns-4
 returns-4 c =
     let m = c .before in
-    let e = m .before .before in
+    let p = m .before .before in
+    let e = p .before in
     let r = e .before .before in
     let s = r .before in
     λ q h.
     subst (Is (c .whole3 .result))
-    (ap scaled (value-back (e .before)) ∙ whole-score (s .args .set) q (r .present-rules .result) (r .present-rules .ensures q h) (e .if1 .left) _ (sym (operator-is (s .args .p) q h) ∙ m .enum-told3 .given .1) applied-max)
+    (ap scaled (value-back (e .before)) ∙ whole-score (s .args .set) q (r .present-rules .result) (r .present-rules .ensures q h) (e .if1 .left) _ (sym (p .operator-at .ensures q h) ∙ m .enum-told3 .given .1) applied-max)
     (c .whole3 .ensures)
 
 returns-5 : tie.Need-returns-5
 returns-5 c =
     let m = c .before in
-    let e = m .before .before in
+    let p = m .before .before in
+    let e = p .before in
     let r = e .before .before in
     let s = r .before in
     λ q h.
     subst (Is (c .whole4 .result))
-    (ap scaled (value-back (e .before)) ∙ whole-score (s .args .set) q (r .present-rules .result) (r .present-rules .ensures q h) (e .if1 .left) _ (sym (operator-is (s .args .p) q h) ∙ m .enum-told4 .given .1) applied-sum)
+    (ap scaled (value-back (e .before)) ∙ whole-score (s .args .set) q (r .present-rules .result) (r .present-rules .ensures q h) (e .if1 .left) _ (sym (p .operator-at .ensures q h) ∙ m .enum-told4 .given .1) applied-sum)
     (c .whole4 .ensures)
 
 pub policy-score-spec : {M : Type 1} → statement M
@@ -137,6 +145,7 @@ policy-score-spec =
     present-rules-requires
     whole-requires
     returns
+    operator-at-requires
     enum-told
     cast-of-product
     of-product-requires

@@ -1,51 +1,53 @@
 -- `score::policies::rule_score`: the rule's score where its signal is present.
 use native.Mathlib.Omega.{arith}
-use lib.IntN.{pos}
-use lib.ListN.{getD}
+use mathlib.Core.Path.{ap, _∙_}
+use borrow.Author.Needs.{needs}
 use mir.Syntax.{w32}
 use mir.Val.{SFits}
 use Rattle.arith.proofs.Signed.{wide-fits, wide-back}
-use Rattle.book.proofs.StoredRules.{kept-count, kept-signal}
+use Rattle.signals.specs.Sets.{present}
+use Rattle.book.proofs.CellLaws.{signal-small}
 use Rattle.score.proofs.RuleLaws.{rule-present, rule-absent}
 use Rattle.score.proofs.policies.rule_score.Statement.{statement}
 use Rattle.score.proofs.policies.rule_score.Tie as tie
 
-mul-score : tie.Need-mul-score
-mul-score c = omega (arith, c .pre .0, kept-count (c .args .t1) (c .pre .1))
+signal-at-requires : tie.Need-signal-at-requires
+signal-at-requires c κs = c .pre
 
-element-copy-out-score : tie.Need-element-copy-out-score
-element-copy-out-score c = omega (arith, c .pre .0, kept-count (c .args .t1) (c .pre .1))
-
-score-fits : (c : tie.After-score) → SFits w32 (getD (c .before .args .t1 .scores) (c .before .args .i) (pos 0))
-score-fits c = record { sfits = c .score .given }
-
-cast-value : tie.Need-cast-value
-cast-value c = wide-fits _ (score-fits c)
-
-mul-is-present : tie.Need-mul-is-present
-mul-is-present c = let s = c .before in omega (arith, s .pre .0, kept-count (s .args .t1) (s .pre .1))
-
-element-copy-out-is-present : tie.Need-element-copy-out-is-present
-element-copy-out-is-present c = let s = c .before in omega (arith, s .pre .0, kept-count (s .args .t1) (s .pre .1))
+score-at-requires : tie.Need-score-at-requires
+score-at-requires c κs = c .before .pre
 
 is-present-requires : tie.Need-is-present-requires
-is-present-requires c κs = let s = c .before .before in kept-signal (s .args .t1) (s .args .i) (s .pre .1) (s .pre .0)
+is-present-requires c κs =
+    let g = c .before in
+    let s = g .before in
+    let h = s .pre .0 in
+    omega (arith, g .signal-at .ensures (h .policy) (h .held), signal-small (h .policy) (h .range) (s .args .i) (s .pre .1))
+
+score-fits : (c : tie.After-score-at) → SFits w32 (c .score-at .result)
+score-fits c = search needs
+
+cast-t9 : tie.Need-cast-t9
+cast-t9 c = let v = c .before .before in wide-fits (v .score-at .result) (score-fits v)
 
 returns : tie.Need-returns
 returns c =
     let p = c .before in
-    let v = p .before .before in
-    let s = v .before in
+    let v = p .before in
+    let g = v .before in
+    let a = g .before .args in
     λ q e.
-    rule-present (s .args .t1) q e (s .args .i) (s .pre .0) (s .args .set) (p .is-present .result) (p .is-present .ensures) (c .if1 .taken) _ (wide-back _ (score-fits v))
+    rule-present q (a .i) (a .set) (p .is-present .result) (p .is-present .ensures ∙ ap (present (a .set)) (g .signal-at .ensures q e)) (c .if1 .taken) _
+    (wide-back (v .score-at .result) (score-fits v) ∙ v .score-at .ensures q e)
 
 returns-2 : tie.Need-returns-2
 returns-2 c =
     let p = c .before in
-    let s = p .before .before .before in
-    λ q e. rule-absent (s .args .t1) q e (s .args .i) (s .pre .0) (s .args .set) (p .is-present .result) (p .is-present .ensures) (c .if1 .left)
+    let g = p .before .before in
+    let a = g .before .args in
+    λ q e. rule-absent q (a .i) (a .set) (p .is-present .result) (p .is-present .ensures ∙ ap (present (a .set)) (g .signal-at .ensures q e)) (c .if1 .left)
 
 pub rule-score-spec : {M : Type 1} → statement M
 rule-score-spec =
     tie.close
-    (tie.spec mul-score element-copy-out-score cast-value mul-is-present element-copy-out-is-present is-present-requires returns returns-2)
+    (tie.spec signal-at-requires score-at-requires is-present-requires cast-t9 returns returns-2)

@@ -1,0 +1,383 @@
+-- What writing a policy, a rule or a condition into the cells does to the book that they are of.
+use Prim.Native.Nat.{ℕ, _+_, _-_, _*_, _≤_, _<_}
+use mathlib.Core.Bool.{true}
+use mathlib.Core.List.{List, [], _∷_, _++_, map, map-append}
+use mathlib.Core.Logic.{⊎-elim}
+use mathlib.Core.Path.{_≡_, refl, sym, ap, subst, _∙_}
+use native.Mathlib.Omega.{arith}
+use lib.IntN.{ℤ, pos}
+use lib.ListN.{length, getD, set, length-append, length-set, List·getD-append}
+use lib.Seq.{getD-append-seam, getD-set-same, getD-set-other, getD-take}
+use Rattle.answers.specs.Answers.{result}
+use Rattle.arith.proofs.Order.{le-or-lt}
+use Rattle.signals.specs.Sets.{setOf}
+use Rattle.peal.specs.Policies.{Rule, Policy, Expression, Condition, Book, noRule, policyAt, emptyPolicy}
+use Rattle.peal.specs.Translation.{maskOf}
+use Rattle.peal.specs.declared.Operator.{Operator}
+use Rattle.book.specs.Acceptance.{lastPolicy, withRule, withPolicies, withLast, withCondition, mentionsBelow}
+use Rattle.book.specs.Books.{conditionAt}
+use Rattle.book.specs.Cells.{operatorCode, senseCode, cell, PolicyCells, ConditionCells, BookCells}
+use Rattle.book.specs.Codes.{codesOf, HoldsCodes}
+use Rattle.book.specs.Ranges.{BookInRange, ConditionInRange}
+use Rattle.book.proofs.CodeLaws.{mention-below}
+use Rattle.book.proofs.ConditionLaws.{condition-within, condition-more, each-condition}
+use Rattle.book.proofs.MentionLaws.{codes-count}
+use Rattle.book.proofs.RangeLaws.{rules-at-most, policy-in-range}
+
+-- ---- cells that stay
+
+-- the cells from `from` to before `to` are the same
+abbrev Same : (from to : ℕ) (before after : List ℤ) → Type 0
+Same from to before after = (i : ℕ) → from ≤ i → i < to → cell after i ≡ cell before i
+
+-- no cell is changed but those from `from` to before `to`
+pub record Changed (from to : ℕ) (before after : List ℤ) : Type 0 where
+  pub long : length after ≡ length before
+  pub below : (i : ℕ) → i < from → cell after i ≡ cell before i
+  pub above : (i : ℕ) → to ≤ i → cell after i ≡ cell before i
+
+unchanged : (from to : ℕ) (cells : List ℤ) → Changed from to cells cells
+unchanged from to cells = record { long = refl; below = λ i h. refl; above = λ i h. refl }
+
+changed-more : (from to : ℕ) (before after : List ℤ) (i : ℕ) (x : ℤ) → from ≤ i → i < to → Changed from to before after → Changed from to before (set after i x)
+changed-more from to before after i x l m h =
+    record {
+      long = length-set after i x ∙ h .long;
+      below = λ j n. getD-set-other after i j x (pos 0) (λ z. omega arith) ∙ h .below j n;
+      above = λ j n. getD-set-other after i j x (pos 0) (λ z. omega arith) ∙ h .above j n;
+    }
+
+-- a change, and then one further on
+changed-then : {from to next : ℕ} {a b c : List ℤ} → Changed from to a b → Changed next to b c → from ≤ next → Changed from to a c
+changed-then h k l = record { long = k .long ∙ h .long; below = λ i m. k .below i (omega arith) ∙ h .below i m; above = λ i m. k .above i m ∙ h .above i m }
+
+module _ {before after : List ℤ} (k : ℕ) where
+  policy-same : (p : Policy) → Same (k * 36) (k * 36 + 36) before after → length (p .rules) ≤ 16 → PolicyCells before k p → PolicyCells after k p
+  policy-same p s few h =
+      record {
+        operator = s (k * 36) (omega arith) (omega arith) ∙ h .operator;
+        default = s (k * 36 + 1) (omega arith) (omega arith) ∙ h .default;
+        count = s (k * 36 + 2) (omega arith) (omega arith) ∙ h .count;
+        mask = s (k * 36 + 3) (omega arith) (omega arith) ∙ h .mask;
+        signals = λ i l. s (k * 36 + 4 + i) (omega arith) (omega arith) ∙ h .signals i l;
+        scores = λ i l. s (k * 36 + 20 + i) (omega arith) (omega arith) ∙ h .scores i l;
+      }
+
+  condition-same : (c : Condition) → Same (k * 34 + 576) (k * 34 + 610) before after → length (codesOf (c .expression)) ≤ 31 → ConditionCells before k c → ConditionCells after k c
+  condition-same c s few h =
+      record {
+        sense = s (k * 34 + 576) (omega arith) (omega arith) ∙ h .sense;
+        threshold = s (k * 34 + 577) (omega arith) (omega arith) ∙ h .threshold;
+        count = s (k * 34 + 578) (omega arith) (omega arith) ∙ h .count;
+        codes = λ i l. s (k * 34 + 579 + i) (omega arith) (omega arith) ∙ h .codes i l;
+      }
+
+module _ (b : Book) (range : BookInRange b) where
+  few-codes : (k : ℕ) (c : Condition) → conditionAt (b .conditions) k ≡ result c → length (codesOf (c .expression)) ≤ 31
+  few-codes k c h =
+      omega (arith, codes-count (c .expression), each-condition (ConditionInRange (length (b .policies))) (b .conditions) k c (range .conditions) h .mentionsRoom)
+
+  module _ {from to : ℕ} {before after : List ℤ} (changed : Changed from to before after) (held : BookCells before b) where
+    -- the policies and conditions before what is changed, and the conditions behind it
+    policy-before : (k : ℕ) → k < length (b .policies) → k * 36 + 36 ≤ from → PolicyCells after k (policyAt (b .policies) k)
+    policy-before k h l =
+        policy-same k (policyAt (b .policies) k) (λ i m n. changed .below i (omega arith))
+        (rules-at-most (policyAt (b .policies) k) (policy-in-range b range k h))
+        (held .policies k h)
+
+    condition-before : (k : ℕ) (c : Condition) → conditionAt (b .conditions) k ≡ result c → k * 34 + 610 ≤ from → ConditionCells after k c
+    condition-before k c h l = condition-same k c (λ i m n. changed .below i (omega arith)) (few-codes k c h) (held .conditions k c h)
+
+    condition-behind : (k : ℕ) (c : Condition) → conditionAt (b .conditions) k ≡ result c → to ≤ 576 → ConditionCells after k c
+    condition-behind k c h l = condition-same k c (λ i m n. changed .above i (omega arith)) (few-codes k c h) (held .conditions k c h)
+
+-- ---- lists with one member more, and with another last one
+
+module _ {A : Type 0} (P : ℕ → A → Type 0) (xs : List A) (x d : A) where
+  one-more : ((k : ℕ) → k < length xs → P k (getD xs k d)) → P (length xs) x → (k : ℕ) → k < length (xs ++ (x ∷ [])) → P k (getD (xs ++ (x ∷ [])) k d)
+  one-more old new k h =
+      ⊎-elim
+      (λ (m : length xs ≤ k).
+      let e : length xs ≡ k = omega (arith, length-append xs (x ∷ [])) in
+      subst (λ (j : ℕ). P j (getD (xs ++ (x ∷ [])) j d)) e (subst (P (length xs)) (sym (getD-append-seam xs x [] d)) new))
+      (λ m. subst (P k) (sym (List·getD-append xs (x ∷ []) d k m)) (old k m))
+      (le-or-lt (length xs) k)
+
+  last-other : (n : ℕ) → n + 1 ≡ length xs → ((k : ℕ) → k < n → P k (getD xs k d)) → P n x
+      → (k : ℕ) → k < length (set xs (length xs - 1) x) → P k (getD (set xs (length xs - 1) x) k d)
+  last-other n e old new k h =
+      let f : length xs - 1 ≡ n = omega arith in
+      rw f
+      (⊎-elim
+      (λ (m : n ≤ k).
+      let g : n ≡ k = omega (arith, length-set xs (length xs - 1) x) in
+      subst (λ (j : ℕ). P j (getD (set xs n x) j d)) g (subst (P n) (sym (getD-set-same xs n x d (omega arith))) new))
+      (λ m. subst (P k) (sym (getD-set-other xs n k x d (λ z. omega arith))) (old k m))
+      (le-or-lt n k))
+
+-- ---- a policy more
+
+-- a policy with no rules
+abbrev opened : Operator → ℤ → Policy
+opened o d = record { operator = o; default = d; rules = [] }
+
+module _ (before : List ℤ) (k : ℕ) (code default : ℤ) where
+  abbrev p-one : List ℤ
+  p-one = set before (k * 36) code
+
+  abbrev p-two : List ℤ
+  p-two = set p-one (k * 36 + 1) default
+
+  abbrev p-three : List ℤ
+  p-three = set p-two (k * 36 + 2) (pos 0)
+
+  abbrev p-four : List ℤ
+  p-four = set p-three (k * 36 + 3) (pos 0)
+
+  pub p-one-length : length p-one ≡ length before
+  p-one-length = length-set before (k * 36) code
+
+  pub p-two-length : length p-two ≡ length before
+  p-two-length = length-set p-one (k * 36 + 1) default ∙ p-one-length
+
+  pub p-three-length : length p-three ≡ length before
+  p-three-length = length-set p-two (k * 36 + 2) (pos 0) ∙ p-two-length
+
+  opened-changed : Changed (k * 36) (k * 36 + 36) before p-four
+  opened-changed =
+      changed-more _ _ before p-three (k * 36 + 3) (pos 0) (omega arith) (omega arith)
+      (changed-more _ _ before p-two (k * 36 + 2) (pos 0) (omega arith) (omega arith)
+      (changed-more _ _ before p-one (k * 36 + 1) default (omega arith) (omega arith)
+      (changed-more (k * 36) (k * 36 + 36) before before (k * 36) code (omega arith) (omega arith)
+      (unchanged (k * 36) (k * 36 + 36) before))))
+
+  module _ (o : Operator) (d : ℤ) (inside : k < 16) (long : length before ≡ 848) (code-is : code ≡ operatorCode o) (default-is : default ≡ d) where
+    opened-cells : PolicyCells p-four k (opened o d)
+    unfolding maskOf setOf
+    opened-cells =
+        record {
+          operator =
+              getD-set-other p-three (k * 36 + 3) (k * 36) (pos 0) (pos 0) (λ z. omega arith)
+              ∙ getD-set-other p-two (k * 36 + 2) (k * 36) (pos 0) (pos 0) (λ z. omega arith)
+              ∙ getD-set-other p-one (k * 36 + 1) (k * 36) default (pos 0) (λ z. omega arith)
+              ∙ getD-set-same before (k * 36) code (pos 0) (omega arith) ∙ code-is;
+          default =
+              getD-set-other p-three (k * 36 + 3) (k * 36 + 1) (pos 0) (pos 0) (λ z. omega arith)
+              ∙ getD-set-other p-two (k * 36 + 2) (k * 36 + 1) (pos 0) (pos 0) (λ z. omega arith)
+              ∙ getD-set-same p-one (k * 36 + 1) default (pos 0) (omega (arith, p-one-length)) ∙ default-is;
+          count =
+              getD-set-other p-three (k * 36 + 3) (k * 36 + 2) (pos 0) (pos 0) (λ z. omega arith)
+              ∙ getD-set-same p-two (k * 36 + 2) (pos 0) (pos 0) (omega (arith, p-two-length));
+          mask = getD-set-same p-three (k * 36 + 3) (pos 0) (pos 0) (omega (arith, p-three-length));
+          signals = λ i h. absurd (omega arith);
+          scores = λ i h. absurd (omega arith);
+        }
+
+    pub policy-put : (b : Book) → BookCells before b → BookInRange b → k ≡ length (b .policies) → BookCells p-four (withPolicies b (b .policies ++ (opened o d ∷ [])))
+    unfolding withPolicies policyAt
+    policy-put b h range last =
+        record {
+          policies =
+              one-more (PolicyCells p-four) (b .policies) (opened o d) emptyPolicy (λ j l. policy-before b range opened-changed h j l (omega arith))
+              (subst (λ (j : ℕ). PolicyCells p-four j (opened o d)) last opened-cells);
+          conditions = λ j c e. condition-behind b range opened-changed h j c e (omega arith);
+        }
+
+-- ---- a rule more
+
+-- the mask of some rules is the sum of their bits
+sets-more : (ss : List ℕ) (s : ℕ) → setOf ss + setOf (s ∷ []) ≡ setOf (ss ++ (s ∷ []))
+unfolding setOf
+sets-more [] s = omega arith
+sets-more (x ∷ ss) s = omega (arith, sets-more ss s)
+
+mask-more : (rules : List Rule) (r : Rule) → maskOf rules + setOf (r .signal ∷ []) ≡ maskOf (rules ++ (r ∷ []))
+unfolding maskOf
+mask-more rules r = sets-more (map (λ (x : Rule). x .signal) rules) (r .signal) ∙ ap setOf (sym (map-append (λ (x : Rule). x .signal) rules (r ∷ [])))
+
+pub last-held : {cells : List ℤ} {b : Book} {k : ℕ} → BookCells cells b → k + 1 ≡ length (b .policies) → PolicyCells cells k (lastPolicy b)
+unfolding lastPolicy
+last-held {cells} {b} {k} h last =
+    let e : k ≡ length (b .policies) - 1 = omega arith in
+    subst (λ (j : ℕ). PolicyCells cells k (policyAt (b .policies) j)) e (h .policies k (omega arith))
+
+module _ (before : List ℤ) (k n : ℕ) (signal score count mask : ℤ) where
+  abbrev r-one : List ℤ
+  r-one = set before (k * 36 + 4 + n) signal
+
+  abbrev r-two : List ℤ
+  r-two = set r-one (k * 36 + 20 + n) score
+
+  abbrev r-three : List ℤ
+  r-three = set r-two (k * 36 + 2) count
+
+  abbrev r-four : List ℤ
+  r-four = set r-three (k * 36 + 3) mask
+
+  pub r-one-length : length r-one ≡ length before
+  r-one-length = length-set before (k * 36 + 4 + n) signal
+
+  pub r-two-length : length r-two ≡ length before
+  r-two-length = length-set r-one (k * 36 + 20 + n) score ∙ r-one-length
+
+  pub r-three-length : length r-three ≡ length before
+  r-three-length = length-set r-two (k * 36 + 2) count ∙ r-two-length
+
+  rule-changed : n < 16 → Changed (k * 36) (k * 36 + 36) before r-four
+  rule-changed room =
+      changed-more _ _ before r-three (k * 36 + 3) mask (omega arith) (omega arith)
+      (changed-more _ _ before r-two (k * 36 + 2) count (omega arith) (omega arith)
+      (changed-more _ _ before r-one (k * 36 + 20 + n) score (omega arith) (omega arith)
+      (changed-more (k * 36) (k * 36 + 36) before before (k * 36 + 4 + n) signal (omega arith) (omega arith)
+      (unchanged (k * 36) (k * 36 + 36) before))))
+
+  -- a cell other than the four
+  rule-other : (j : ℕ) → (j ≡ k * 36 + 4 + n → ⊥) → (j ≡ k * 36 + 20 + n → ⊥) → (j ≡ k * 36 + 2 → ⊥) → (j ≡ k * 36 + 3 → ⊥) → cell r-four j ≡ cell before j
+  rule-other j w x y z =
+      getD-set-other r-three (k * 36 + 3) j mask (pos 0) z ∙ getD-set-other r-two (k * 36 + 2) j count (pos 0) y
+      ∙ getD-set-other r-one (k * 36 + 20 + n) j score (pos 0) x ∙ getD-set-other before (k * 36 + 4 + n) j signal (pos 0) w
+
+  module _ (inside : k < 16) (room : n < 16) (long : length before ≡ 848) where
+    module _ (p : Policy) (r : Rule) (h : PolicyCells before k p) (n-is : n ≡ length (p .rules)) (signal-is : signal ≡ pos (r .signal)) (score-is : score ≡ r .score)
+        (count-is : count ≡ pos (n + 1)) (mask-is : mask ≡ pos (maskOf (p .rules) + setOf (r .signal ∷ []))) where
+      rule-cells : PolicyCells r-four k (withRule p r)
+      unfolding withRule
+      rule-cells =
+          let longer : n + 1 ≡ length (p .rules ++ (r ∷ [])) = omega (arith, length-append (p .rules) (r ∷ [])) in
+          record {
+            operator = rule-other (k * 36) (λ z. omega arith) (λ z. omega arith) (λ z. omega arith) (λ z. omega arith) ∙ h .operator;
+            default = rule-other (k * 36 + 1) (λ z. omega arith) (λ z. omega arith) (λ z. omega arith) (λ z. omega arith) ∙ h .default;
+            count =
+                getD-set-other r-three (k * 36 + 3) (k * 36 + 2) mask (pos 0) (λ z. omega arith)
+                ∙ getD-set-same r-two (k * 36 + 2) count (pos 0) (omega (arith, r-two-length)) ∙ count-is ∙ ap pos longer;
+            mask = getD-set-same r-three (k * 36 + 3) mask (pos 0) (omega (arith, r-three-length)) ∙ mask-is ∙ ap pos (mask-more (p .rules) r);
+            signals =
+                one-more (λ (i : ℕ) (x : Rule). cell r-four (k * 36 + 4 + i) ≡ pos (x .signal)) (p .rules) r noRule
+                (λ i s. rule-other (k * 36 + 4 + i) (λ z. omega arith) (λ z. omega arith) (λ z. omega arith) (λ z. omega arith) ∙ h .signals i s)
+                (subst (λ (i : ℕ). cell r-four (k * 36 + 4 + i) ≡ pos (r .signal)) n-is
+                (getD-set-other r-three (k * 36 + 3) (k * 36 + 4 + n) mask (pos 0) (λ z. omega arith)
+                ∙ getD-set-other r-two (k * 36 + 2) (k * 36 + 4 + n) count (pos 0) (λ z. omega arith)
+                ∙ getD-set-other r-one (k * 36 + 20 + n) (k * 36 + 4 + n) score (pos 0) (λ z. omega arith)
+                ∙ getD-set-same before (k * 36 + 4 + n) signal (pos 0) (omega arith) ∙ signal-is));
+            scores =
+                one-more (λ (i : ℕ) (x : Rule). cell r-four (k * 36 + 20 + i) ≡ x .score) (p .rules) r noRule
+                (λ i s. rule-other (k * 36 + 20 + i) (λ z. omega arith) (λ z. omega arith) (λ z. omega arith) (λ z. omega arith) ∙ h .scores i s)
+                (subst (λ (i : ℕ). cell r-four (k * 36 + 20 + i) ≡ r .score) n-is
+                (getD-set-other r-three (k * 36 + 3) (k * 36 + 20 + n) mask (pos 0) (λ z. omega arith)
+                ∙ getD-set-other r-two (k * 36 + 2) (k * 36 + 20 + n) count (pos 0) (λ z. omega arith)
+                ∙ getD-set-same r-one (k * 36 + 20 + n) score (pos 0) (omega (arith, r-one-length)) ∙ score-is));
+          }
+
+    pub rule-put : (b : Book) (r : Rule) → BookCells before b → BookInRange b → k + 1 ≡ length (b .policies) → n ≡ length (lastPolicy b .rules)
+        → signal ≡ pos (r .signal) → score ≡ r .score → count ≡ pos (n + 1) → mask ≡ pos (maskOf (lastPolicy b .rules) + setOf (r .signal ∷ []))
+        → BookCells r-four (withLast b (withRule (lastPolicy b) r))
+    unfolding withLast withPolicies policyAt
+    rule-put b r h range last n-is signal-is score-is count-is mask-is =
+        record {
+          policies =
+              last-other (PolicyCells r-four) (b .policies) (withRule (lastPolicy b) r) emptyPolicy k last
+              (λ j l. policy-before b range (rule-changed room) h j (omega arith) (omega arith))
+              (rule-cells (lastPolicy b) r (last-held h last) n-is signal-is score-is count-is mask-is);
+          conditions = λ j c e. condition-behind b range (rule-changed room) h j c e (omega arith);
+        }
+
+-- ---- a condition more
+
+-- a code that is held
+held-code : {cs : List ℕ} {n : ℕ} {e : Expression} → HoldsCodes cs n e → (i : ℕ) → i < n → getD cs i 0 ≡ getD (codesOf e) i 0
+held-code {cs} {n} h i s = sym (getD-take n cs i 0 s) ∙ ap (λ (l : List ℕ). getD l i 0) (h .same)
+
+pub held-small : {cs : List ℕ} {n : ℕ} {e : Expression} → HoldsCodes cs n e → mentionsBelow 16 e ≡ true → (i : ℕ) → i < n → getD cs i 0 < 18
+held-small {cs} {n} {e} h m i s = omega (arith, held-code h i s, mention-below e i 16 (omega (arith, h .count)) m)
+
+-- the first i codes of condition k are written
+pub record CodesSoFar (before after : List ℤ) (k : ℕ) (cs : List ℕ) (i : ℕ) : Type 0 where
+  pub changed : Changed (k * 34 + 579) (k * 34 + 610) before after
+  pub codes : (j : ℕ) → j < i → cell after (k * 34 + 579 + j) ≡ pos (getD cs j 0)
+
+pub no-codes : (cells : List ℤ) (k : ℕ) (cs : List ℕ) → CodesSoFar cells cells k cs 0
+no-codes cells k cs = record { changed = unchanged (k * 34 + 579) (k * 34 + 610) cells; codes = λ j h. absurd (omega arith) }
+
+pub code-more : (before after : List ℤ) (k : ℕ) (cs : List ℕ) (i : ℕ) (x : ℤ) → k < 8 → i < 31 → length before ≡ 848 → x ≡ pos (getD cs i 0)
+    → CodesSoFar before after k cs i → CodesSoFar before (set after (k * 34 + 579 + i) x) k cs (i + 1)
+code-more before after k cs i x inside room long x-is h =
+    record {
+      changed = changed-more (k * 34 + 579) (k * 34 + 610) before after (k * 34 + 579 + i) x (omega arith) (omega arith) (h .changed);
+      codes =
+          λ j s.
+          ⊎-elim
+          (λ (m : i ≤ j).
+          let e : i ≡ j = omega arith in
+          subst (λ (y : ℕ). cell (set after (k * 34 + 579 + i) x) (k * 34 + 579 + y) ≡ pos (getD cs y 0)) e
+          (getD-set-same after (k * 34 + 579 + i) x (pos 0) (omega (arith, h .changed .long)) ∙ x-is))
+          (λ m. getD-set-other after (k * 34 + 579 + i) (k * 34 + 579 + j) x (pos 0) (λ z. omega arith) ∙ h .codes j m)
+          (le-or-lt i j);
+    }
+
+module _ (before : List ℤ) (k : ℕ) (sense threshold count : ℤ) where
+  abbrev c-one : List ℤ
+  c-one = set before (k * 34 + 576) sense
+
+  abbrev c-two : List ℤ
+  c-two = set c-one (k * 34 + 577) threshold
+
+  abbrev c-three : List ℤ
+  c-three = set c-two (k * 34 + 578) count
+
+  pub c-one-length : length c-one ≡ length before
+  c-one-length = length-set before (k * 34 + 576) sense
+
+  pub c-two-length : length c-two ≡ length before
+  c-two-length = length-set c-one (k * 34 + 577) threshold ∙ c-one-length
+
+  pub c-three-length : length c-three ≡ length before
+  c-three-length = length-set c-two (k * 34 + 578) count ∙ c-two-length
+
+  module _ (after : List ℤ) (n : ℕ) (cs : List ℕ) (h : CodesSoFar c-three after k cs n) where
+    condition-changed : Changed (k * 34 + 576) (k * 34 + 610) before after
+    condition-changed =
+        changed-then
+        (changed-more _ _ before c-two (k * 34 + 578) count (omega arith) (omega arith)
+        (changed-more _ _ before c-one (k * 34 + 577) threshold (omega arith) (omega arith)
+        (changed-more (k * 34 + 576) (k * 34 + 610) before before (k * 34 + 576) sense (omega arith) (omega arith)
+        (unchanged (k * 34 + 576) (k * 34 + 610) before))))
+        (h .changed) (omega arith)
+
+    module _ (c : Condition) (inside : k < 8) (long : length before ≡ 848) (sense-is : sense ≡ senseCode (c .sense)) (threshold-is : threshold ≡ c .threshold) (count-is : count ≡ pos n)
+        (held : HoldsCodes cs n (c .expression)) where
+      condition-cells : ConditionCells after k c
+      condition-cells =
+          record {
+            sense =
+                h .changed .below (k * 34 + 576) (omega arith)
+                ∙ getD-set-other c-two (k * 34 + 578) (k * 34 + 576) count (pos 0) (λ z. omega arith)
+                ∙ getD-set-other c-one (k * 34 + 577) (k * 34 + 576) threshold (pos 0) (λ z. omega arith)
+                ∙ getD-set-same before (k * 34 + 576) sense (pos 0) (omega arith) ∙ sense-is;
+            threshold =
+                h .changed .below (k * 34 + 577) (omega arith)
+                ∙ getD-set-other c-two (k * 34 + 578) (k * 34 + 577) count (pos 0) (λ z. omega arith)
+                ∙ getD-set-same c-one (k * 34 + 577) threshold (pos 0) (omega (arith, c-one-length)) ∙ threshold-is;
+            count =
+                h .changed .below (k * 34 + 578) (omega arith)
+                ∙ getD-set-same c-two (k * 34 + 578) count (pos 0) (omega (arith, c-two-length)) ∙ count-is ∙ ap pos (held .count);
+            codes =
+                λ i s.
+                let m : i < n = omega (arith, held .count) in
+                h .codes i m ∙ ap pos (held-code held i m);
+          }
+
+      pub condition-put : (b : Book) → BookCells before b → BookInRange b → k ≡ length (b .conditions) → BookCells after (withCondition b c)
+      unfolding withCondition
+      condition-put b cells range last =
+          record {
+            policies = λ j l. policy-before b range condition-changed cells j l (omega (arith, range .policiesRoom));
+            conditions =
+                λ j x e.
+                ⊎-elim
+                (λ (f : conditionAt (b .conditions) j ≡ result x).
+                condition-before b range condition-changed cells j x f (omega (arith, condition-within (b .conditions) j x f)))
+                (λ (f : (j ≡ length (b .conditions)) × (c ≡ x)).
+                let at : k ≡ j = omega (arith, f .0) in
+                subst (λ (y : ℕ). ConditionCells after y x) at (subst (ConditionCells after k) (f .1) condition-cells))
+                (condition-more (b .conditions) c j x e);
+          }

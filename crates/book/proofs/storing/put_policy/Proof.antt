@@ -1,0 +1,101 @@
+-- `book::storing::put_policy`: the first four cells of the policy are written.
+use mathlib.Core.Path.{_≡_, _∙_}
+use native.Mathlib.Omega.{arith}
+use borrow.Author.Needs.{needs}
+use denote.Ref.{now}
+use lib.IntN.{ℤ}
+use lib.ListN.{length}
+use mir.Syntax.{w32}
+use mir.Val.{SFits, toZ, ofZ}
+use mir.ValLaws.{toZ-ofZ}
+use Rattle.book.proofs.StoringLaws.{p-one-length, p-two-length, p-three-length, policy-put}
+use Rattle.book.proofs.storing.put_policy.Statement.{statement}
+use Rattle.book.proofs.storing.put_policy.Tie as tie
+
+long : (c : tie.After-all) → length (now (c .before .before .args .cells)) ≡ 848
+long c = search needs
+
+-- what is written, as it is read back
+abbrev code : tie.After-all → ℤ
+code c = toZ w32 (ofZ w32 (c .before .operator-code .result))
+
+abbrev default : tie.After-all → ℤ
+default c = toZ w32 (ofZ w32 (c .before .before .args .default))
+
+operator-code-requires : tie.Need-operator-code-requires
+operator-code-requires c κs = search needs
+
+mul-code : tie.Need-mul-code
+mul-code c = search needs
+
+mul-code-2 : tie.Need-mul-code-2
+mul-code-2 c = search needs
+
+slice-set-from-code : tie.Need-slice-set-from-code
+slice-set-from-code c = search needs
+
+mul-default : tie.Need-mul-default
+mul-default c = search needs
+
+add-default : tie.Need-add-default
+add-default c = search needs
+
+mul-default-2 : tie.Need-mul-default-2
+mul-default-2 c = search needs
+
+slice-set-from-default : tie.Need-slice-set-from-default
+slice-set-from-default c = let s = c .before .before in omega (arith, s .pre, long c, p-one-length (now (s .args .cells)) (s .args .k) (code c) (default c))
+
+mul-all : tie.Need-mul-all
+mul-all c = search needs
+
+add-all : tie.Need-add-all
+add-all c = search needs
+
+mul-all-2 : tie.Need-mul-all-2
+mul-all-2 c = search needs
+
+slice-set-of-all : tie.Need-slice-set-of-all
+slice-set-of-all c = let s = c .before .before in omega (arith, s .pre, long c, p-two-length (now (s .args .cells)) (s .args .k) (code c) (default c))
+
+mul-all-3 : tie.Need-mul-all-3
+mul-all-3 c = search needs
+
+add-all-2 : tie.Need-add-all-2
+add-all-2 c = search needs
+
+mul-all-4 : tie.Need-mul-all-4
+mul-all-4 c = search needs
+
+slice-set-of-all-2 : tie.Need-slice-set-of-all-2
+slice-set-of-all-2 c = let s = c .before .before in omega (arith, s .pre, long c, p-three-length (now (s .args .cells)) (s .args .k) (code c) (default c))
+
+returns : tie.Need-returns
+returns c =
+    let s = c .before .before in
+    let r = c .before .operator-code in
+    let fits : SFits w32 (r .result) = search needs in
+    policy-put (now (s .args .cells)) (s .args .k) (code c) (default c) (s .args .o) (s .args .default) (s .pre) (long c) (toZ-ofZ w32 (r .result) fits ∙ r .ensures)
+    (toZ-ofZ w32 (s .args .default) (s .fits .default))
+
+pub put-policy-spec : {M : Type 1} → statement M
+put-policy-spec =
+    tie.close
+    (tie.spec
+    operator-code-requires
+    mul-code
+    mul-code-2
+    slice-set-from-code
+    mul-default
+    add-default
+    mul-default-2
+    slice-set-from-default
+    mul-all
+    add-all
+    mul-all-2
+    slice-set-of-all
+    mul-all-3
+    add-all-2
+    mul-all-4
+    slice-set-of-all-2
+    returns)

@@ -1,0 +1,182 @@
+-- `book::storing::put_rule`: the rule's signal and score are written behind the others, and the count and the set of signals anew.
+use Prim.Native.Nat.{ℕ, _+_, _^_, _<_}
+use mathlib.Core.List.{[], _∷_}
+use mathlib.Core.Path.{_≡_, refl, sym, ap, ap₂, subst, _∙_}
+use native.Mathlib.Omega.{arith}
+use borrow.Author.Needs.{needs}
+use denote.Ref.{now}
+use lib.IntN.{ℤ, pos, _+ℤ_}
+use lib.ListN.{length}
+use mir.Syntax.{w16, w32}
+use mir.Val.{Fits, SFits, toZ, ofZ}
+use mir.ValLaws.{toZ-pos, toZ-ofZ}
+use Rattle.signals.proofs.SetOfLaws.{set-below}
+use Rattle.book.specs.Acceptance.{lastPolicy}
+use Rattle.book.proofs.StoringLaws.{r-one-length, r-two-length, r-three-length, last-held, rule-put}
+use Rattle.book.proofs.storing.put_rule.Statement.{statement}
+use Rattle.book.proofs.storing.put_rule.Tie as tie
+
+abbrev start : tie.After-all → tie.Start
+start c = c .before .before .before .before .before .before
+
+long : (c : tie.After-all) → length (now (start c .args .cells)) ≡ 848
+long c = search needs
+
+-- the number of rules so far
+abbrev n : tie.After-all → ℕ
+n c = c .before .before .before .before .count-at .result
+
+few : (c : tie.After-all) → n c < 16
+few c = let k = start c .pre .0 in omega (arith, c .before .before .before .before .count-at .ensures (k .policy) (k .held), start c .pre .1)
+
+n-back : (c : tie.After-all) → toZ w32 (n c) ≡ pos (n c)
+n-back c = toZ-pos w32 (n c) (omega (arith, few c))
+
+next-fits : (c : tie.After-all) → SFits w32 (pos (n c + 1))
+next-fits c = record { sfits = omega (arith, few c) }
+
+-- the set with the signal
+small : (c : tie.After-bit) → c .before .mask-at .result + c .bit .result < 2 ^ 17
+small c =
+    let s = c .before .before .before .before .before in
+    let fits : Fits w16 (c .before .mask-at .result) = search needs in
+    omega (arith, fits .fits, c .bit .ensures, set-below 16 (s .args .signal ∷ []) (s .pre .2, tt) (refl, tt))
+
+-- what is written, as it is read back
+abbrev signal : tie.After-all → ℤ
+signal c = toZ w32 (start c .args .signal)
+
+abbrev score : tie.After-all → ℤ
+score c = toZ w32 (ofZ w32 (start c .args .score))
+
+abbrev counted : tie.After-all → ℤ
+counted c = toZ w32 (ofZ w32 (toZ w32 (n c) +ℤ pos 1))
+
+abbrev mask : tie.After-all → ℤ
+mask c = toZ w32 (c .before .before .mask-at .result + c .before .bit .result)
+
+count-at-requires : tie.Need-count-at-requires
+count-at-requires c κs = search needs
+
+mask-at-requires : tie.Need-mask-at-requires
+mask-at-requires c κs = search needs
+
+cast-with-signal : tie.Need-cast-with-signal
+cast-with-signal c = search needs
+
+bit-requires : tie.Need-bit-requires
+bit-requires c κs = search needs
+
+add-with-signal : tie.Need-add-with-signal
+add-with-signal c = record { fits = omega (arith, small c) }
+
+cast-all : tie.Need-cast-all
+cast-all c = search needs
+
+mul-all : tie.Need-mul-all
+mul-all c = search needs
+
+add-all : tie.Need-add-all
+add-all c = search needs
+
+add-all-2 : tie.Need-add-all-2
+add-all-2 c = record { fits = omega (arith, few c, start c .pre .0 .inside) }
+
+mul-all-2 : tie.Need-mul-all-2
+mul-all-2 c = record { fits = omega (arith, few c, start c .pre .0 .inside) }
+
+slice-set-from-all : tie.Need-slice-set-from-all
+slice-set-from-all c = omega (arith, few c, start c .pre .0 .inside, long c)
+
+mul-score : tie.Need-mul-score
+mul-score c = search needs
+
+add-score : tie.Need-add-score
+add-score c = search needs
+
+add-score-2 : tie.Need-add-score-2
+add-score-2 c = record { fits = omega (arith, few c, start c .pre .0 .inside) }
+
+mul-score-2 : tie.Need-mul-score-2
+mul-score-2 c = record { fits = omega (arith, few c, start c .pre .0 .inside) }
+
+slice-set-from-score : tie.Need-slice-set-from-score
+slice-set-from-score c = let s = start c in omega (arith, few c, s .pre .0 .inside, long c, r-one-length (now (s .args .cells)) (s .args .k) (n c) (signal c) (score c) (counted c) (mask c))
+
+cast-all-2 : tie.Need-cast-all-2
+cast-all-2 c = record { sfits = omega (arith, few c) }
+
+add-all-3 : tie.Need-add-all-3
+add-all-3 c = subst (λ (z : ℤ). SFits w32 (z +ℤ pos 1)) (sym (n-back c)) (next-fits c)
+
+mul-t16 : tie.Need-mul-t16
+mul-t16 c = search needs
+
+add-t17 : tie.Need-add-t17
+add-t17 c = search needs
+
+mul-t18 : tie.Need-mul-t18
+mul-t18 c = search needs
+
+slice-set-from-all-2 : tie.Need-slice-set-from-all-2
+slice-set-from-all-2 c = let s = start c in omega (arith, few c, s .pre .0 .inside, long c, r-two-length (now (s .args .cells)) (s .args .k) (n c) (signal c) (score c) (counted c) (mask c))
+
+cast-all-3 : tie.Need-cast-all-3
+cast-all-3 c = record { sfits = omega (arith, small (c .before)) }
+
+mul-t15 : tie.Need-mul-t15
+mul-t15 c = search needs
+
+add-t17-2 : tie.Need-add-t17-2
+add-t17-2 c = search needs
+
+mul-t16-2 : tie.Need-mul-t16-2
+mul-t16-2 c = search needs
+
+slice-set-from-all-3 : tie.Need-slice-set-from-all-3
+slice-set-from-all-3 c = let s = start c in omega (arith, few c, s .pre .0 .inside, long c, r-three-length (now (s .args .cells)) (s .args .k) (n c) (signal c) (score c) (counted c) (mask c))
+
+returns : tie.Need-returns
+returns c = λ b h range last.
+    let s = start c in
+    let held = last-held h last in
+    rule-put (now (s .args .cells)) (s .args .k) (n c) (signal c) (score c) (counted c) (mask c) (s .pre .0 .inside) (few c) (long c) b (record { signal = s .args .signal; score = s .args .score }) h range last
+    (c .before .before .before .before .count-at .ensures (lastPolicy b) held)
+    (toZ-pos w32 (s .args .signal) (omega (arith, s .pre .2)))
+    (toZ-ofZ w32 (s .args .score) (s .fits .score))
+    (ap (λ (z : ℤ). toZ w32 (ofZ w32 (z +ℤ pos 1))) (n-back c) ∙ toZ-ofZ w32 (pos (n c + 1)) (next-fits c))
+    (toZ-pos w32 (c .before .before .mask-at .result + c .before .bit .result) (omega (arith, small (c .before)))
+    ∙ ap pos (ap₂ _+_ (c .before .before .mask-at .ensures (lastPolicy b) held) (c .before .bit .ensures)))
+
+pub put-rule-spec : {M : Type 1} → statement M
+put-rule-spec =
+    tie.close
+    (tie.spec
+    count-at-requires
+    mask-at-requires
+    cast-with-signal
+    bit-requires
+    add-with-signal
+    cast-all
+    mul-all
+    add-all
+    add-all-2
+    mul-all-2
+    slice-set-from-all
+    mul-score
+    add-score
+    add-score-2
+    mul-score-2
+    slice-set-from-score
+    cast-all-2
+    add-all-3
+    mul-t16
+    add-t17
+    mul-t18
+    slice-set-from-all-2
+    cast-all-3
+    mul-t15
+    add-t17-2
+    mul-t16-2
+    slice-set-from-all-3
+    returns)
