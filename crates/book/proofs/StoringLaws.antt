@@ -1,7 +1,7 @@
 -- What writing a policy, a rule or a condition into the cells does to the book that they are of.
 use Prim.Native.Nat.{ℕ, _+_, _-_, _*_, _≤_, _<_}
 use mathlib.Core.Bool.{true}
-use mathlib.Core.List.{List, [], _∷_, _++_, map, map-append}
+use mathlib.Core.List.{List, [], _∷_, _++_}
 use mathlib.Core.Logic.{⊎-elim}
 use mathlib.Core.Path.{_≡_, refl, sym, ap, subst, _∙_}
 use native.Mathlib.Omega.{arith}
@@ -14,6 +14,7 @@ use Rattle.signals.specs.Sets.{setOf}
 use Rattle.peal.specs.Policies.{Rule, Policy, Expression, Condition, Book, noRule, policyAt, emptyPolicy}
 use Rattle.peal.specs.Translation.{maskOf}
 use Rattle.peal.specs.declared.Operator.{Operator}
+use Rattle.peal.proofs.MaskLaws.{mask-more}
 use Rattle.book.specs.Acceptance.{lastPolicy, withRule, withPolicies, withLast, withCondition, mentionsBelow}
 use Rattle.book.specs.Books.{conditionAt}
 use Rattle.book.specs.Cells.{operatorCode, senseCode, cell, PolicyCells, ConditionCells, BookCells}
@@ -186,15 +187,6 @@ module _ (before : List ℤ) (k : ℕ) (code default : ℤ) where
 -- ---- a rule more
 
 -- the mask of some rules is the sum of their bits
-sets-more : (ss : List ℕ) (s : ℕ) → setOf ss + setOf (s ∷ []) ≡ setOf (ss ++ (s ∷ []))
-unfolding setOf
-sets-more [] s = omega arith
-sets-more (x ∷ ss) s = omega (arith, sets-more ss s)
-
-mask-more : (rules : List Rule) (r : Rule) → maskOf rules + setOf (r .signal ∷ []) ≡ maskOf (rules ++ (r ∷ []))
-unfolding maskOf
-mask-more rules r = sets-more (map (λ (x : Rule). x .signal) rules) (r .signal) ∙ ap setOf (sym (map-append (λ (x : Rule). x .signal) rules (r ∷ [])))
-
 pub last-held : {cells : List ℤ} {b : Book} {k : ℕ} → BookCells cells b → k + 1 ≡ length (b .policies) → PolicyCells cells k (lastPolicy b)
 unfolding lastPolicy
 last-held {cells} {b} {k} h last =

@@ -1,7 +1,7 @@
 -- The search, step by step: a rule more among those taken, and what is found from there.
 use Prim.Native.Nat.{ℕ, suc, _+_, _-_, _*_, _^_, _≤_, _<_}
 use mathlib.Core.Bool.{Bool, true, false, cond}
-use mathlib.Core.List.{List, [], _∷_, _++_, map, append-assoc, append-nil, map-append}
+use mathlib.Core.List.{List, [], _∷_, _++_, append-assoc, append-nil}
 use mathlib.Core.Path.{_≡_, refl, sym, ap, ap₂, subst, _∙_}
 use native.Mathlib.Nat.{le-trans, pow-suc, pow-le-pow-right}
 use native.Mathlib.Omega.{arith}
@@ -26,6 +26,7 @@ use Rattle.peal.specs.Combining.{combinedOf}
 use Rattle.peal.specs.declared.Operator.{Operator}
 use Rattle.peal.specs.declared.Operator.the-variants.{Min, Max, Sum, Mul}
 use Rattle.peal.proofs.LineLaws.{search-finds-lines}
+use Rattle.peal.proofs.MaskLaws.{mask-more}
 use Rattle.book.specs.Acceptance.{within, scoreInRange}
 use Rattle.book.specs.Ranges.{PolicyInRange}
 use Rattle.book.proofs.ScoreSizes.{InScore, range-fits}
@@ -79,16 +80,7 @@ worth-more : (o : Operator) (X : List Rule) (r : Rule) → scoreInRange o (r .sc
 unfolding worth
 worth-more o X r h = ap (combinedOf o (worth o X)) (sym (alone (r .score) o h)) ∙ sym (worth-append o X (r ∷ []))
 
--- the mask of some rules is the sum of their bits
-sets-more : (ss : List ℕ) (s : ℕ) → setOf ss + setOf (s ∷ []) ≡ setOf (ss ++ (s ∷ []))
-unfolding setOf
-sets-more [] s = omega arith
-sets-more (x ∷ ss) s = omega (arith, sets-more ss s)
-
-mask-more : (X : List Rule) (r : Rule) → maskOf X + setOf (r .signal ∷ []) ≡ maskOf (X ++ (r ∷ []))
-unfolding maskOf
-mask-more X r = sets-more (map (λ (x : Rule). x .signal) X) (r .signal) ∙ ap setOf (sym (map-append (λ (x : Rule). x .signal) X (r ∷ [])))
-
+-- a mask is the sum of its bits
 mask-small : (X : List Rule) → Each (λ (r : Rule). r .signal < 16) X → maskOf X ≤ 32768 * length X
 unfolding maskOf setOf
 mask-small [] h = omega arith

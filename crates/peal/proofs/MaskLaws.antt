@@ -1,8 +1,8 @@
 -- Masks say which rules are present; and the record of a mention fits a sound listing.
-use Prim.Native.Nat.{ℕ, _≤_, _<_}
+use Prim.Native.Nat.{ℕ, _+_, _≤_, _<_}
 use mathlib.Core.Bool.{true}
-use mathlib.Core.List.{List, [], _∷_, map, Permᴰ·symm, Permᴰ·map}
-use mathlib.Core.Path.{_≡_, sym, subst, _∙_}
+use mathlib.Core.List.{List, [], _∷_, _++_, map, map-append, Permᴰ·symm, Permᴰ·map}
+use mathlib.Core.Path.{_≡_, sym, ap, subst, _∙_}
 use native.Mathlib.Omega.{arith}
 use lib.IntN.{ℤ}
 use Rattle.arith.specs.Lists.{any, Each}
@@ -11,7 +11,7 @@ use Rattle.arith.proofs.DistinctLists.{distinct-reordered, distinct-inside, ins
 use Rattle.arith.proofs.Members.{each-in, every-each, each-every}
 use Rattle.arith.proofs.Reordering.{each-reordered}
 use Rattle.arith.proofs.Sublists.{each-inside}
-use Rattle.signals.specs.Sets.{present, inside}
+use Rattle.signals.specs.Sets.{present, inside, setOf}
 use Rattle.signals.proofs.SetOfLaws.{set-below, inside-set, overlap-set, inside-self}
 use Rattle.layout.specs.WellFormed.{LinesFit, PolicyFits}
 use Rattle.peal.specs.Policies.{Rule, Policy}
@@ -104,3 +104,14 @@ module _ (o : Operator) (t : ℤ) (rules : List Rule) (h : SignalsFit rules) whe
 pub listed-fits : (s : Sense) (t : ℤ) (p : Policy) → SignalsFit (p .rules) → PolicyFits (listed s t p)
 unfolding listed
 listed-fits s t p h = record { maskFits = mask-fits (p .rules) h; linesFit = masks-fit (p .operator) t (p .rules) h }
+
+-- ---- one rule more
+
+sets-more : (ss : List ℕ) (s : ℕ) → setOf ss + setOf (s ∷ []) ≡ setOf (ss ++ (s ∷ []))
+unfolding setOf
+sets-more [] s = omega arith
+sets-more (x ∷ ss) s = omega (arith, sets-more ss s)
+
+pub mask-more : (rules : List Rule) (r : Rule) → maskOf rules + setOf (r .signal ∷ []) ≡ maskOf (rules ++ (r ∷ []))
+unfolding maskOf
+mask-more rules r = sets-more (map signalOf rules) (r .signal) ∙ ap setOf (sym (map-append signalOf rules (r ∷ [])))

@@ -5,7 +5,7 @@ mod optimised;
 mod samples;
 mod timing;
 
-use samples::{SAMPLE, listing, many_mentions, never_book, never_mentions, policy, sum_book, wide_book};
+use samples::{SAMPLE, listing, long_listing, many_mentions, never_book, never_mentions, policy, sum_book, wide_book};
 use timing::{Input, Table};
 
 fn main() {
@@ -103,18 +103,18 @@ fn read(table: &Table) {
 }
 
 fn choice(table: &Table) {
-    let row = |name: &str, book: &str| {
-        let words = listing(book);
+    let row = |name: &str, words: Vec<u32>| {
         let input = Input { call: "choice", name, size: words.len() / 4, unit: "records" };
         table.row(input, || cerahupo::choice(&words), || optimised::choice(&words));
     };
-    row("the sample, yes at set 3", SAMPLE);
-    row("a sum of 16, yes at set 255", &sum_book(16));
-    row("no lines, all sets walked", "p sum\nc 5 < p0\n");
+    row("the sample, yes at set 3", listing(SAMPLE));
+    row("a sum of 16, yes at set 255", listing(&sum_book(16)));
+    row("no lines, all sets walked", listing("p sum\nc 5 < p0\n"));
     for rules in [4, 8, 10, 12] {
-        row(&format!("a sum of {rules} and never, all sets walked"), &never_book(rules));
+        row(&format!("a sum of {rules} and never, all sets walked"), listing(&never_book(rules)));
     }
-    row("15 mentions of a sum of 6 and never, all walked", &never_mentions(6));
+    row("4,095 lines, yes at set 65,535", long_listing());
+    row("15 mentions of a sum of 6 and never, all walked", listing(&never_mentions(6)));
 }
 
 fn compare(table: &Table) {

@@ -54,3 +54,9 @@ pub fn listing(book: &str) -> Vec<u32> {
     words.truncate(4 * records as usize);
     words
 }
+
+/// One policy with 4,095 lines, none of which lies inside any set but 65,535.
+pub fn long_listing() -> Vec<u32> {
+    let lines = (2..=4096).flat_map(|record| [4, 65_535, 0, if record == 4096 { 0 } else { record + 1 }]);
+    [16, 65_535, 2, 0].into_iter().chain(lines).collect()
+}
