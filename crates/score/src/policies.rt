@@ -26,8 +26,9 @@ fn rule_score(cells: &book::Cells, k: usize, i: usize, set: u16) -> Scored
 {
     let signal = book::signal_at(cells, k, i);
     let score = book::score_at(cells, k, i);
+    let value = score as i64;
     if signals::is_present(set, signal) {
-        Scored::Present(score as i64)
+        Scored::Present(value)
     } else {
         Scored::Absent
     }

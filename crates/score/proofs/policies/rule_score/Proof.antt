@@ -17,18 +17,18 @@ signal-at-requires c κs = c .pre
 score-at-requires : tie.Need-score-at-requires
 score-at-requires c κs = c .before .pre
 
+score-fits : (c : tie.After-score-at) → SFits w32 (c .score-at .result)
+score-fits c = search needs
+
+cast-value : tie.Need-cast-value
+cast-value c = wide-fits (c .score-at .result) (score-fits c)
+
 is-present-requires : tie.Need-is-present-requires
 is-present-requires c κs =
     let g = c .before in
     let s = g .before in
     let h = s .pre .0 in
     omega (arith, g .signal-at .ensures (h .policy) (h .held), signal-small (h .policy) (h .range) (s .args .i) (s .pre .1))
-
-score-fits : (c : tie.After-score-at) → SFits w32 (c .score-at .result)
-score-fits c = search needs
-
-cast-t9 : tie.Need-cast-t9
-cast-t9 c = let v = c .before .before in wide-fits (v .score-at .result) (score-fits v)
 
 returns : tie.Need-returns
 returns c =
@@ -50,4 +50,4 @@ returns-2 c =
 pub rule-score-spec : {M : Type 1} → statement M
 rule-score-spec =
     tie.close
-    (tie.spec signal-at-requires score-at-requires is-present-requires cast-t9 returns returns-2)
+    (tie.spec signal-at-requires score-at-requires cast-value is-present-requires returns returns-2)
