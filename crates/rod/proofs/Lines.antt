@@ -1,60 +1,67 @@
 -- Lines against a set, one at a time.
-use Prim.Native.Nat.{ℕ, _+_, _*_, _/_, _^_, _≤_, _<_}
+use Prim.Native.Nat.{ℕ, _+_, _/_, _^_, _≤_, _<_}
 use mathlib.Core.Bool.{Bool, true, false, not}
 use mathlib.Core.List.{List, [], _∷_}
 use mathlib.Core.Logic.{⊎-elim}
-use mathlib.Core.Path.{_≡_, refl, ap, subst}
+use mathlib.Core.Path.{_≡_, refl, sym, ap, subst, _∙_}
 use native.Mathlib.Omega.{arith}
 use lib.Bits.{bitAnd}
-use lib.ListN.{length, getD}
+use lib.ListN.{length}
 use borrow.Author.Tests.{eq-eqb, ne-eqb}
 use Rattle.arith.proofs.Order.{le-or-lt}
-use Rattle.signals.proofs.SetLaws.{inside-and, overlap-and}
+use Rattle.signals.specs.Sets.{inside}
+use Rattle.signals.proofs.SetLaws.{overlap-and}
 use Rattle.layout.specs.Nodes.{ListedPolicy, leadingLines}
 use Rattle.layout.specs.Steps.{recordsFrom}
 use Rattle.layout.proofs.Runs.{leading-more, leading-end}
 use Rattle.rod.specs.Reading.{someLine, policyValue}
-use Rattle.rod.specs.Values.{AllSets}
+use Rattle.rod.specs.Values.{lineAt, AllSets}
 
--- the record at index i, in a run of lines that ends before index `end`
-module _ (ws : List ℕ) (i end set : ℕ) (run : end ≡ i + length (leadingLines (recordsFrom ws i))) (more : i < end) where
-  pub in-words : i < length ws / 4
-  in-words = ⊎-elim (λ h. absurd (omega (arith, ap length (past h)))) (λ h. h) (le-or-lt (length ws / 4) i)
+-- at index i of a run of lines that ends before index `end`: some line from `from` on lies inside the set where some line from here on does
+pub record Walk (ws : List ℕ) (from end set i : ℕ) : Type 0 where
+  pub run : end ≡ i + length (leadingLines (recordsFrom ws i))
+  pub sets : AllSets (leadingLines (recordsFrom ws i))
+  pub same : someLine (leadingLines (recordsFrom ws i)) set ≡ someLine (leadingLines (recordsFrom ws from)) set
+
+module _ {ws : List ℕ} {from end set i : ℕ} (w : Walk ws from end set i) where
+  -- a line is left
+  module _ (more : i < end) where
+    pub walk-within : i < length ws / 4
+    walk-within = ⊎-elim (λ h. absurd (omega (arith, w .run, ap length (past h)))) (λ h. h) (le-or-lt (length ws / 4) i)
+      where
+        past : length ws / 4 ≤ i → leadingLines (recordsFrom ws i) ≡ []
+        past h = leading-end ws i h
+
+    first : leadingLines (recordsFrom ws i) ≡ lineAt ws i ∷ leadingLines (recordsFrom ws (i + 1))
+    first = leading-more ws i walk-within (omega (arith, w .run))
+
+    here-set : lineAt ws i ≤ 65535
+    here-set = subst AllSets first (w .sets) .0
+
+    -- by the test of this line
+    module _ (t : Bool) (told : lineAt ws i ≤ 65535 → t ≡ inside (lineAt ws i) set) where
+      pub walk-found : t ≡ true → true ≡ someLine (leadingLines (recordsFrom ws from)) set
+      unfolding someLine
+      walk-found e = rw (first, sym (told here-set) ∙ e) refl ∙ w .same
+
+      pub walk-on : t ≡ false → (j : ℕ) → i + 1 ≡ j → Walk ws from end set j
+      unfolding someLine
+      walk-on e j k =
+          subst (Walk ws from end set) k
+          (record {
+            run = omega (arith, w .run, ap length first);
+            sets = subst AllSets first (w .sets) .1;
+            same = rw (first, sym (told here-set) ∙ e) refl ∙ w .same;
+          })
+
+  -- no line is left
+  pub walk-end : end ≤ i → false ≡ someLine (leadingLines (recordsFrom ws from)) set
+  unfolding someLine
+  walk-end h = go (leadingLines (recordsFrom ws i)) (omega (arith, w .run)) ∙ w .same
     where
-      past : length ws / 4 ≤ i → leadingLines (recordsFrom ws i) ≡ []
-      past h = leading-end ws i h
-
-  first : leadingLines (recordsFrom ws i) ≡ getD ws (i * 4 + 1) 0 ∷ leadingLines (recordsFrom ws (i + 1))
-  first = leading-more ws i in-words (omega arith)
-
-  -- the rest of the run
-  pub run-on : end ≡ i + 1 + length (leadingLines (recordsFrom ws (i + 1)))
-  run-on = omega (arith, ap length first)
-
-  module _ (sets : AllSets (leadingLines (recordsFrom ws i))) where
-    here-set : getD ws (i * 4 + 1) 0 ≤ 65535
-    here-set = subst AllSets first sets .0
-
-    pub sets-on : AllSets (leadingLines (recordsFrom ws (i + 1)))
-    sets-on = subst AllSets first sets .1
-
-    pub line-inside : bitAnd (getD ws (i * 4 + 1) 0) set ≡ getD ws (i * 4 + 1) 0 → true ≡ someLine (leadingLines (recordsFrom ws i)) set
-    unfolding someLine
-    line-inside e = rw (first, inside-and (getD ws (i * 4 + 1) 0) set (omega (arith, here-set)), eq-eqb (bitAnd (getD ws (i * 4 + 1) 0) set) (getD ws (i * 4 + 1) 0) e) refl
-
-    pub line-outside : (bitAnd (getD ws (i * 4 + 1) 0) set ≡ getD ws (i * 4 + 1) 0 → ⊥)
-        → someLine (leadingLines (recordsFrom ws (i + 1))) set ≡ someLine (leadingLines (recordsFrom ws i)) set
-    unfolding someLine
-    line-outside n = rw (first, inside-and (getD ws (i * 4 + 1) 0) set (omega (arith, here-set)), ne-eqb (bitAnd (getD ws (i * 4 + 1) 0) set) (getD ws (i * 4 + 1) 0) n) refl
-
--- behind the run no line is left
-pub run-end : (ws : List ℕ) (i end set : ℕ) → end ≡ i + length (leadingLines (recordsFrom ws i)) → end ≤ i → false ≡ someLine (leadingLines (recordsFrom ws i)) set
-unfolding someLine
-run-end ws i end set run h = go (leadingLines (recordsFrom ws i)) (omega arith)
-  where
-    go : (ls : List ℕ) → length ls ≡ 0 → false ≡ someLine ls set
-    go [] e = refl
-    go (l ∷ ls) e = absurd (omega arith)
+      go : (ls : List ℕ) → length ls ≡ 0 → false ≡ someLine ls set
+      go [] e = refl
+      go (l ∷ ls) e = absurd (omega arith)
 
 -- a policy's value, by the code's tests
 module _ (p : ListedPolicy) (set : ℕ) (small : set < 2 ^ 16) where

@@ -23,6 +23,10 @@ abbrev pub joinMeaning : Bool → Join
 joinMeaning true = or
 joinMeaning false = and
 
+-- the set of a line at an index
+abbrev pub lineAt : List ℕ → ℕ → ℕ
+lineAt ws i = getD ws (i * 4 + 1) 0
+
 -- every number is a signal set
 abbrev pub AllSets : List ℕ → Type 0
 AllSets ls = Each (λ (l : ℕ). l ≤ 65535) ls

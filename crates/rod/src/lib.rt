@@ -6,23 +6,47 @@ ghost use mathlib.Core.Path.{_≡_};
 ghost use Prim.Native.Nat.{_+_, _*_, _/_, _≤_, _<_};
 ghost use lib.ListN.{length};
 ghost use Rattle.answers.specs.Answers.{result};
+ghost use Rattle.signals.specs.Sets.{inside};
 ghost use Rattle.layout.specs.Judgement.{verdict};
 ghost use Rattle.layout.specs.Nodes.{leadingLines};
 ghost use Rattle.layout.specs.Steps.{recordsFrom};
 ghost use Rattle.rod.specs.Reading.{someLine, policyValue, joined, says, rodAnswer};
 ghost use Rattle.rod.specs.Meaning.{rodMeaning};
-ghost use Rattle.rod.specs.Values.{bitsOf, joinMeaning, AllSets, policyAt, nodeEnd, NodeAt, Underway};
+ghost use Rattle.rod.specs.Values.{bitsOf, joinMeaning, lineAt, AllSets, policyAt, nodeEnd, NodeAt, Underway};
+
+// The line at index i, a signal set, lies wholly inside the set.
+fn is_inside(words: &[u32], i: usize, set: u16) -> bool
+    requires { ⌜ i < length (now words) / 4 ⌝ }
+    ensures { λ r. ⌜ (lineAt (now (words .entry)) i ≤ 65535 → r ≡ inside (lineAt (now (words .entry)) i) set) ⌝ }
+{
+    let line = words[i * 4 + 1];
+    line & set as u32 == line
+}
 
 // Some line of the records from index `from` up to `end`, all of them lines, lies wholly inside the set.
 fn some_line(words: &[u32], from: usize, end: usize, set: u16) -> bool
     requires { ⌜ (end ≡ from + length (leadingLines (recordsFrom (now words) from))) × AllSets (leadingLines (recordsFrom (now words) from)) ⌝ }
     ensures { λ r. ⌜ r ≡ someLine (leadingLines (recordsFrom (now (words .entry)) from)) set ⌝ }
 {
-    let present = set as u32;
     let mut i = from;
+    // Four at a time: the test of the end costs as much as a line's.
+    while 4 <= end - i {
+        if is_inside(words, i, set) {
+            return true;
+        }
+        if is_inside(words, i + 1, set) {
+            return true;
+        }
+        if is_inside(words, i + 2, set) {
+            return true;
+        }
+        if is_inside(words, i + 3, set) {
+            return true;
+        }
+        i += 4;
+    }
     while i < end {
-        let line = words[i * 4 + 1];
-        if line & present == line {
+        if is_inside(words, i, set) {
             return true;
         }
         i += 1;

@@ -1,65 +1,134 @@
--- `rod::some_line`: some line of the run lies inside the set where some line from here on does.
-use Prim.Native.Nat.{_+_, _-_}
-use mathlib.Core.Path.{_≡_, refl, _∙_}
+-- `rod::some_line`: each line that does not lie inside the set carries the walk on by one place.
+use Prim.Native.Nat.{ℕ, _+_, _-_, _≤_, _<_}
+use mathlib.Core.Path.{refl}
 use native.Mathlib.Omega.{arith}
-use lib.ListN.{length}
-use borrow.Author.Needs.{needs}
-use Rattle.layout.specs.Nodes.{leadingLines}
-use Rattle.layout.specs.Steps.{recordsFrom}
-use Rattle.rod.specs.Reading.{someLine}
-use Rattle.rod.specs.Values.{AllSets}
-use Rattle.rod.proofs.Lines.{in-words, run-on, sets-on, line-inside, line-outside, run-end}
+use denote.Ref.{now}
+use Rattle.rod.proofs.Lines.{Walk, walk-within, walk-found, walk-on, walk-end}
 use Rattle.rod.proofs.some_line.Statement.{statement}
 use Rattle.rod.proofs.some_line.Tie as tie
 
 abbrev Inv-loop : tie.InvT-loop
-Inv-loop words from end set present i₀ i =
-    (end ≡ i + length (leadingLines (recordsFrom words i)))
-    × AllSets (leadingLines (recordsFrom words i))
-    × (someLine (leadingLines (recordsFrom words i)) set ≡ someLine (leadingLines (recordsFrom words from)) set)
+Inv-loop words from end set i₀ i = Walk words from end set i
 
 abbrev μ-loop : tie.MeasureT-loop
-μ-loop words from end set present i₀ i = end - i
+μ-loop words from end set i₀ i = end - i
 
-loop-holds : tie.Need-loop-holds Inv-loop μ-loop
-loop-holds c = (c .pre .0, c .pre .1, refl)
+abbrev Inv-loop2 : tie.InvT-loop2
+Inv-loop2 words from end set i₀ i = Walk words from end set i
 
-mul-line : tie.Need-mul-line Inv-loop μ-loop
-mul-line c = omega (arith, in-words _ _ _ 0 (c .before .loop .inv .0) (c .loop-test .taken))
+abbrev μ-loop2 : tie.MeasureT-loop2
+μ-loop2 words from end set i₀ i = end - i
 
-add-line : tie.Need-add-line Inv-loop μ-loop
-add-line c = omega (arith, in-words _ _ _ 0 (c .before .loop .inv .0) (c .loop-test .taken))
+loop-holds : tie.Need-loop-holds Inv-loop μ-loop Inv-loop2 μ-loop2
+loop-holds c = let s = c .before in record { run = s .pre .0; sets = s .pre .1; same = refl }
 
-mul-line-2 : tie.Need-mul-line-2 Inv-loop μ-loop
-mul-line-2 c = omega (arith, in-words _ _ _ 0 (c .before .loop .inv .0) (c .loop-test .taken))
+sub-loop : tie.Need-sub-loop Inv-loop μ-loop Inv-loop2 μ-loop2
+sub-loop c = omega (arith, c .loop .inv .run)
 
-shared-slice-read-line : tie.Need-shared-slice-read-line Inv-loop μ-loop
-shared-slice-read-line c = omega (arith, in-words _ _ _ 0 (c .before .before .loop .inv .0) (c .before .loop-test .taken))
+-- ---- four lines
 
-returns : tie.Need-returns Inv-loop μ-loop
-returns c =
-    let l = c .before .before .before .loop in
-    line-inside _ _ _ _ (l .inv .0) (c .before .before .loop-test .taken) (l .inv .1) (c .if1 .taken) ∙ l .inv .2
+-- j lines of a turn are passed
+module _ (l : tie.At-loop Inv-loop μ-loop Inv-loop2 μ-loop2) where
+  abbrev Passed : ℕ → Type 0
+  Passed j = let a = l .before .before .args in Walk (now (a .words)) (a .from) (a .end) (a .set) (l .loop .i + j)
 
-add-i : tie.Need-add-i Inv-loop μ-loop
-add-i c = search needs
+is-inside-requires : tie.Need-is-inside-requires Inv-loop μ-loop Inv-loop2 μ-loop2
+is-inside-requires c κs = walk-within (c .before .loop .inv) (omega (arith, c .loop-test .taken))
 
-loop-less : tie.Need-loop-less Inv-loop μ-loop
-loop-less c = search needs
+returns : tie.Need-returns Inv-loop μ-loop Inv-loop2 μ-loop2
+returns c = let p = c .before in let t = p .before in walk-found (t .before .loop .inv) (omega (arith, t .loop-test .taken)) _ (p .is-inside .ensures) (c .if1 .taken)
 
-loop-again : tie.Need-loop-again Inv-loop μ-loop
-loop-again c =
-    let l = c .before .before .before .loop in
-    let t = c .before .before .loop-test .taken in (
-      run-on _ _ _ 0 (l .inv .0) t,
-      sets-on _ _ _ 0 (l .inv .0) t (l .inv .1),
-      line-outside _ _ _ _ (l .inv .0) t (l .inv .1) (c .if1 .left) ∙ l .inv .2,
-    )
+passed-1 : (c : tie.Else1 Inv-loop μ-loop Inv-loop2 μ-loop2) → Passed (c .before .before .before) 1
+passed-1 c =
+    let p = c .before in
+    let t = p .before in
+    walk-on (t .before .loop .inv) (omega (arith, t .loop-test .taken)) _ (p .is-inside .ensures) (c .if1 .left) _ refl
 
-returns-2 : tie.Need-returns-2 Inv-loop μ-loop
+add-is-inside : tie.Need-add-is-inside Inv-loop μ-loop Inv-loop2 μ-loop2
+add-is-inside c = omega arith
+
+is-inside-requires-2 : tie.Need-is-inside-requires-2 Inv-loop μ-loop Inv-loop2 μ-loop2
+is-inside-requires-2 c κs = walk-within (passed-1 c) (omega (arith, c .before .before .loop-test .taken))
+
+returns-2 : tie.Need-returns-2 Inv-loop μ-loop Inv-loop2 μ-loop2
 returns-2 c =
-    let l = c .before .loop in
-    run-end _ _ _ _ (l .inv .0) (c .loop-test .left) ∙ l .inv .2
+    let p = c .before in
+    let b = p .before in
+    walk-found (passed-1 b) (omega (arith, b .before .before .loop-test .taken)) _ (p .is-inside2 .ensures) (c .if2 .taken)
+
+passed-2 : (c : tie.Else2 Inv-loop μ-loop Inv-loop2 μ-loop2) → Passed (c .before .before .before .before .before) 2
+passed-2 c =
+    let p = c .before in
+    let b = p .before in
+    walk-on (passed-1 b) (omega (arith, b .before .before .loop-test .taken)) _ (p .is-inside2 .ensures) (c .if2 .left) _ (omega arith)
+
+add-is-inside-2 : tie.Need-add-is-inside-2 Inv-loop μ-loop Inv-loop2 μ-loop2
+add-is-inside-2 c = omega arith
+
+is-inside-requires-3 : tie.Need-is-inside-requires-3 Inv-loop μ-loop Inv-loop2 μ-loop2
+is-inside-requires-3 c κs = walk-within (passed-2 c) (omega (arith, c .before .before .before .before .loop-test .taken))
+
+returns-3 : tie.Need-returns-3 Inv-loop μ-loop Inv-loop2 μ-loop2
+returns-3 c =
+    let p = c .before in
+    let b = p .before in
+    walk-found (passed-2 b) (omega (arith, b .before .before .before .before .loop-test .taken)) _ (p .is-inside3 .ensures) (c .if3 .taken)
+
+passed-3 : (c : tie.Else3 Inv-loop μ-loop Inv-loop2 μ-loop2) → Passed (c .before .before .before .before .before .before .before) 3
+passed-3 c =
+    let p = c .before in
+    let b = p .before in
+    walk-on (passed-2 b) (omega (arith, b .before .before .before .before .loop-test .taken)) _ (p .is-inside3 .ensures) (c .if3 .left) _ (omega arith)
+
+add-is-inside-3 : tie.Need-add-is-inside-3 Inv-loop μ-loop Inv-loop2 μ-loop2
+add-is-inside-3 c = omega arith
+
+is-inside-requires-4 : tie.Need-is-inside-requires-4 Inv-loop μ-loop Inv-loop2 μ-loop2
+is-inside-requires-4 c κs = walk-within (passed-3 c) (omega (arith, c .before .before .before .before .before .before .loop-test .taken))
+
+returns-4 : tie.Need-returns-4 Inv-loop μ-loop Inv-loop2 μ-loop2
+returns-4 c =
+    let p = c .before in
+    let b = p .before in
+    walk-found (passed-3 b) (omega (arith, b .before .before .before .before .before .before .loop-test .taken)) _ (p .is-inside4 .ensures) (c .if4 .taken)
+
+add-i : tie.Need-add-i Inv-loop μ-loop Inv-loop2 μ-loop2
+add-i c = omega arith
+
+loop-less : tie.Need-loop-less Inv-loop μ-loop Inv-loop2 μ-loop2
+loop-less c = omega (arith, c .before .before .before .before .before .before .before .before .loop-test .taken)
+
+loop-again : tie.Need-loop-again Inv-loop μ-loop Inv-loop2 μ-loop2
+loop-again c =
+    let p = c .before in
+    let b = p .before in
+    walk-on (passed-3 b) (omega (arith, b .before .before .before .before .before .before .loop-test .taken)) _ (p .is-inside4 .ensures) (c .if4 .left) _ (omega arith)
+
+-- ---- the rest
+
+loop2-holds : tie.Need-loop2-holds Inv-loop μ-loop Inv-loop2 μ-loop2
+loop2-holds c = c .before .loop .inv
+
+is-inside-requires-5 : tie.Need-is-inside-requires-5 Inv-loop μ-loop Inv-loop2 μ-loop2
+is-inside-requires-5 c κs = walk-within (c .before .loop2 .inv) (c .loop2-test .taken)
+
+returns-5 : tie.Need-returns-5 Inv-loop μ-loop Inv-loop2 μ-loop2
+returns-5 c = let p = c .before in let t = p .before in walk-found (t .before .loop2 .inv) (t .loop2-test .taken) _ (p .is-inside5 .ensures) (c .if5 .taken)
+
+add-i-2 : tie.Need-add-i-2 Inv-loop μ-loop Inv-loop2 μ-loop2
+add-i-2 c = omega (arith, c .before .before .loop2-test .taken)
+
+loop2-less : tie.Need-loop2-less Inv-loop μ-loop Inv-loop2 μ-loop2
+loop2-less c = omega (arith, c .before .before .loop2-test .taken)
+
+loop2-again : tie.Need-loop2-again Inv-loop μ-loop Inv-loop2 μ-loop2
+loop2-again c =
+    let p = c .before in
+    let t = p .before in
+    walk-on (t .before .loop2 .inv) (t .loop2-test .taken) _ (p .is-inside5 .ensures) (c .if5 .left) _ refl
+
+returns-6 : tie.Need-returns-6 Inv-loop μ-loop Inv-loop2 μ-loop2
+returns-6 c = walk-end (c .before .loop2 .inv) (c .loop2-test .left)
 
 pub some-line-spec : {M : Type 1} → statement M
 some-line-spec =
@@ -67,13 +136,28 @@ some-line-spec =
     (tie.spec
     Inv-loop
     μ-loop
+    Inv-loop2
+    μ-loop2
     loop-holds
-    mul-line
-    add-line
-    mul-line-2
-    shared-slice-read-line
+    sub-loop
+    is-inside-requires
     returns
+    add-is-inside
+    is-inside-requires-2
+    returns-2
+    add-is-inside-2
+    is-inside-requires-3
+    returns-3
+    add-is-inside-3
+    is-inside-requires-4
+    returns-4
     add-i
     loop-less
     loop-again
-    returns-2)
+    loop2-holds
+    is-inside-requires-5
+    returns-5
+    add-i-2
+    loop2-less
+    loop2-again
+    returns-6)
