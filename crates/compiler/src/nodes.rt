@@ -120,6 +120,7 @@ pub fn count_records(cells: &book::Cells, n: usize, lines: &mut [usize; 31]) -> 
     let mut i = 0;
     while i < count {
         let next = next_lines(cells, n, lines, i);
+        // As a slice the array is known to have 31 cells.
         let counts = &mut lines[..];
         counts[i] = next;
         records += 1 + next;
