@@ -1,9 +1,9 @@
 -- Laws of lists in a fixed number of cells.
-use Prim.Native.Nat.{ℕ, zero, suc, _+_, _-_, _≤_, _<_}
+use Prim.Native.Nat.{ℕ, zero, suc, _+_, _-_, _<_}
 use mathlib.Core.List.{List, [], _∷_, _++_, append-assoc}
-use mathlib.Core.Path.{_≡_, refl, ap, _∙_}
+use mathlib.Core.Path.{_≡_, refl, ap}
 use native.Mathlib.Omega.{arith}
-use lib.ListN.{length, getD, set, replicate, length-append, length-replicate, length-set}
+use lib.ListN.{length, getD, set, replicate, length-append, length-set}
 use Rattle.arith.specs.Lists.{padded}
 
 module _ {A : Type 0} where
@@ -37,7 +37,3 @@ module _ {A : Type 0} where
   pub padded-get : (n : ℕ) (z : A) (xs : List A) (i : ℕ) (d : A) → i < length xs → getD (padded n z xs) i d ≡ getD xs i d
   unfolding padded
   padded-get n z xs i d h = get-before xs (replicate (n - length xs) z) i d h
-
-  pub padded-length : (n : ℕ) (z : A) (xs : List A) → length xs ≤ n → length (padded n z xs) ≡ n
-  unfolding padded
-  padded-length n z xs h = length-append xs (replicate (n - length xs) z) ∙ ap (λ (k : ℕ). length xs + k) (length-replicate (n - length xs) z) ∙ omega arith

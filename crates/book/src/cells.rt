@@ -2,7 +2,8 @@
 // Policy k has the 36 cells from 36 k on: its operator, its default, how many rules, the set of their signals, and from the
 // fifth and the 21st on their signals and scores. Condition k has the 34 cells from 576 + 34 k on: its sense, its threshold,
 // how many codes, and these codes. No other cell means anything.
-// The functions are for the crates above, which have the cells of an accepted book; each call is proved to meet its condition.
+// The functions are for this crate and those above, which have the cells of a book in range: no call that a user makes has a
+// condition, and each call of these is proved to meet it.
 ghost use mathlib.Core.Path.{_≡_};
 ghost use Prim.Native.Nat.{_<_};
 ghost use lib.ListN.{length, getD};

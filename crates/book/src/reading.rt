@@ -35,8 +35,8 @@ fn passed_up(v: Verdict, line: usize) -> Checked
     }
 }
 
-// What a check of the book tells; and into the lent cells, whatever they hold, the book where it is accepted. Where it is
-// refused they hold nothing of use.
+// For the crates above: what a check of the book tells; and into the lent cells, whatever they hold, the book where it is
+// accepted. Where it is refused they hold nothing of use.
 pub fn read(bytes: &[u8], cells: &mut Cells) -> Checked
     ensures { λ r. ⌜ checkedMeaning r ≡ checked (now (bytes .entry)) ⌝ }
     ensures { λ r. ⌜ ((b : PealBook) → readBook (now (bytes .entry)) ≡ result b → BookCells (now (cells .exit)) b) ⌝ }

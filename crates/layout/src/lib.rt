@@ -204,7 +204,7 @@ fn next_node(words: &[u32], from: usize) -> usize
     0
 }
 
-// The record at index i is a sound line of a policy of this mask.
+// Yes only for a record that is a sound line of a policy of this mask. One that gets a no is judged as every other record.
 fn is_sound_line(words: &[u32], i: usize, mask: u16) -> bool
     requires { ⌜ i * 4 + 4 ≤ length (now words) ⌝ }
     ensures { λ r. ⌜ (r ≡ true → PassedOver (now (words .entry)) i mask) ⌝ }
@@ -223,7 +223,7 @@ fn is_sound_line(words: &[u32], i: usize, mask: u16) -> bool
     signals::lies_inside(r.mask, mask)
 }
 
-// The index of the first record after the one at index `node` that is no sound line of it.
+// An index behind the record at index `node`, with nothing but sound lines of it between.
 // Most records are lines: here each is judged, and found to be no node, in one reading.
 fn after_lines(words: &[u32], node: usize) -> usize
     requires { ⌜ node * 4 + 4 ≤ length (now words) ⌝ }
