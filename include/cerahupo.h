@@ -1,7 +1,7 @@
 /* Cerahupo from C: the check of a book, the scored decision, compiling, the rod's reading, the choice check and the comparison.
  *
- * Link libexports.a, which `rt staticlib exports` writes for x86-64 Linux. It uses memcpy of the C library and nothing else,
- * keeps no state and allocates nothing, so calls may run side by side.
+ * Link libexports.a, which `rt staticlib exports` writes for x86-64 Linux. It uses memcpy and memset of the C library and
+ * nothing else, keeps no state and allocates nothing, so calls may run side by side.
  *
  * A book is bytes, a listing is 32-bit words, four a record; document 01 says what both mean. Each is handed over as a pointer
  * and a number of elements; with 0 elements the pointer may be anything, NULL too. Every input has an answer: none has to be
@@ -9,11 +9,11 @@
  *
  * A call returns one number, which tells its whole answer:
  *
- *     bits 0 to 3    0 where the call was accepted, else the refusal's number in document 01's table, 1 to 10
- *     bit 4          1 only where cerahupo_compare declined its second listing
+ *     bits 0 to 4    the code: 0 where the call was accepted, else the refusal's number, for which 1 to 20 are kept (document
+ *                    01's table has 1 to 10); 25 and 26 are the refusals 9 and 10 of the second listing of a comparison
  *     bits 5 to 63   the value: on a refusal the line or the record beside it (0 where the table has 0), otherwise the result
  *
- * The functions at the end take it apart. */
+ * The functions at the end take it apart; docs/FIRMWARE.md has the values of all results in one table. */
 
 #ifndef CERAHUPO_H
 #define CERAHUPO_H
@@ -54,16 +54,23 @@ uint64_t cerahupo_compare(const uint32_t *one, size_t one_length, const uint32_t
 
 /* ---- the number taken apart */
 
-/* 0 where the call was accepted, else the refusal's number. */
-static inline unsigned cerahupo_number(uint64_t answer) { return (unsigned)(answer & 15); }
+/* Bits 0 to 4: 0 where the call was accepted, 1 to 20 for a refusal, 25 and 26 for refusals 9 and 10 of a second listing. */
+static inline unsigned cerahupo_code(uint64_t answer) { return (unsigned)(answer & 31); }
 
-static inline bool cerahupo_accepted(uint64_t answer) { return cerahupo_number(answer) == 0; }
+/* 0 where the call was accepted, else the refusal's number: 9 and 10 for the second listing of a comparison too. */
+static inline unsigned cerahupo_number(uint64_t answer)
+{
+    unsigned code = cerahupo_code(answer);
+    return code > 20 ? code - 16 : code;
+}
+
+static inline bool cerahupo_accepted(uint64_t answer) { return cerahupo_code(answer) == 0; }
 
 /* On a refusal: the line or the record. */
 static inline uint64_t cerahupo_value(uint64_t answer) { return answer >> 5; }
 
 /* On a refusal by cerahupo_compare: 1 or 2, the listing that was declined. */
-static inline unsigned cerahupo_declined_listing(uint64_t answer) { return 1 + (unsigned)(answer >> 4 & 1); }
+static inline unsigned cerahupo_declined_listing(uint64_t answer) { return cerahupo_code(answer) > 20 ? 2 : 1; }
 
 /* cerahupo_check, accepted. */
 static inline unsigned cerahupo_policies(uint64_t answer) { return (unsigned)(answer >> 5 & 2047); }
@@ -81,7 +88,8 @@ static inline unsigned cerahupo_choice_kind(uint64_t answer) { return (unsigned)
 static inline uint16_t cerahupo_lowest_yes(uint64_t answer) { return (uint16_t)(answer >> 16); }
 static inline uint16_t cerahupo_lowest_no(uint64_t answer) { return (uint16_t)(answer >> 32); }
 
-/* cerahupo_compare: accepted, and alike; where they are not, the set, and 1 or 2, the listing that says yes there. */
+/* cerahupo_compare: accepted, and alike; where they are not, the set, and 1 or 2, the listing that says yes there. The value
+ * itself is 0 for alike; otherwise its lowest eleven bits are 3 where the first listing says yes and 1 where the second does. */
 static inline bool cerahupo_alike(uint64_t answer) { return answer == 0; }
 static inline uint16_t cerahupo_lowest_difference(uint64_t answer) { return (uint16_t)(answer >> 16); }
 static inline unsigned cerahupo_yes_listing(uint64_t answer) { return (answer >> 5 & 2047) == 3 ? 1 : 2; }

@@ -17,7 +17,7 @@ pub mod raw;
 use raw::Told;
 use std::fmt;
 
-/// A refusal by document 01's table: its number, 1 to 10, and the line or record beside it, 0 where there is none.
+/// A refusal by document 01's table: its number, and the line or record beside it, 0 where there is none.
 #[derive(Clone, Copy, Debug, PartialEq, Eq)]
 pub struct Refusal {
     pub number: u8,

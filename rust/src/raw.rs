@@ -11,18 +11,30 @@ mod library {
     }
 }
 
-/// What a call returned, N + 16 * W + 32 * V: N is the refusal or 0, W tells whether the second listing was declined,
-/// V is the result, or the line or record of the refusal.
+/// What a call returned, C + 32 * V. The code C is 0 where the call was accepted, and else the refusal's number, 1 to 20;
+/// 25 and 26 are refusals 9 and 10 of the second listing of a comparison. V is the result, or the line or record of the refusal.
 #[derive(Clone, Copy)]
 pub struct Told(pub u64);
 
+/// The highest number that a refusal may have.
+const HIGHEST_REFUSAL: u8 = 20;
+
+/// By so much the code of a refusal is higher where it is the second listing's.
+const OF_SECOND: u8 = 16;
+
 impl Told {
-    pub fn number(self) -> u8 {
-        (self.0 % 16) as u8
+    pub fn code(self) -> u8 {
+        (self.0 % 32) as u8
     }
 
+    /// The refusal's number whichever listing it is of, or 0.
+    pub fn number(self) -> u8 {
+        if self.second() { self.code() - OF_SECOND } else { self.code() }
+    }
+
+    /// A code above every refusal's number tells of the second listing.
     pub fn second(self) -> bool {
-        self.0 / 16 % 2 == 1
+        self.code() > HIGHEST_REFUSAL
     }
 
     pub fn value(self) -> u64 {

@@ -4,12 +4,13 @@ use mathlib.Core.Bool.{Bool}
 use mathlib.Core.List.{List, _++_, Forall₂, Forall₂·nil, Forall₂·cons}
 use mathlib.Core.Path.{_≡_, refl, sym, ap, subst, _∙_}
 use lib.ListN.{length}
+use borrow.Author.Tests.{le-leb}
 use Rattle.answers.specs.Answers.{Answer, result, refused, onResult}
 use Rattle.answers.proofs.Results.{no-refusal, result-is}
 use Rattle.arith.specs.Lists.{Each}
 use Rattle.arith.specs.Trees.{leaf, join, postfix, mapTree}
 use Rattle.arith.proofs.Tests.{clash}
-use Rattle.layout.specs.Records.{records}
+use Rattle.layout.specs.Records.{words, records}
 use Rattle.layout.specs.Nodes.{nodes}
 use Rattle.layout.proofs.Soundness.{nodes-listing}
 use Rattle.rod.specs.Reading.{rodAnswer}
@@ -19,14 +20,18 @@ use Rattle.rod.specs.declared.Decision.the-variants.{Yes as RodYes, No as RodNo
 use Rattle.peal.specs.Policies.{Policy, Expression, Condition, policyAt}
 use Rattle.peal.specs.Score.{decision}
 use Rattle.peal.specs.Translation.{listed, translated, listingRecords}
+use Rattle.book.specs.Books.{read, conditionAt, asked}
 use Rattle.book.specs.Ranges.{PolicyInRange}
 use Rattle.book.proofs.AskedLaws.{asked-in-range}
 use Rattle.score.specs.Meaning.{scoreMeaning}
 use Rattle.score.specs.declared.Decision.{Decision as LoggerDecision}
 use Rattle.score.specs.declared.Decision.the-variants.{Yes as LoggerYes, No as LoggerNo, Refused, NoCondition}
-use Rattle.compiler.specs.Compiling.{compiled, returned, lentAfter, compiledListing}
+use Rattle.compiler.specs.Compiling.{fitting, compiled, returned, lentAfter, compiledListing}
+use Rattle.compiler.specs.Meaning.{compiledMeaning}
+use Rattle.compiler.specs.declared.Compiled.{Compiled}
+use Rattle.compiler.specs.declared.Compiled.the-variants.{Records, Refused as CompileRefused, NoCondition as NoSuchCondition, NoRoom}
 use Rattle.agreement.specs.CompiledReading.{compiledReading}
-use Rattle.agreement.specs.Demand3.{CompiledAgreement, ReadingAgreement, SaySame, bothYes, bothNo, StandsFor, MinimalListing, Demand3}
+use Rattle.agreement.specs.Demand3.{CompiledAgreement, ReadingAgreement, SaySame, bothYes, bothNo, StandsFor, MinimalListing, ListingFits, Demand3}
 use Rattle.agreement.proofs.Policies.{signals-fit}
 use Rattle.agreement.proofs.Conditions.{policy-in-range, tree}
 use Rattle.agreement.proofs.Books.{scored-result, book-agreement}
@@ -54,7 +59,7 @@ unfolding compiledReading
 reading-agreement bytes number set lent =
     on-same (returned (compiled bytes number (length lent))) _ _ (λ n e. let (b, r, l) = compiled-agreement bytes number set n lent e in r ∙ sym l)
 
-say-same : (b : Bool) (rod : RodDecision) (logger : LoggerDecision) → rodMeaning rod ≡ result b → scoreMeaning logger ≡ result b → SaySame rod logger
+pub say-same : (b : Bool) (rod : RodDecision) (logger : LoggerDecision) → rodMeaning rod ≡ result b → scoreMeaning logger ≡ result b → SaySame rod logger
 say-same b RodYes LoggerYes r l = bothYes
 say-same b RodYes LoggerNo r l = clash (sym (result-is r)) (sym (result-is l))
 say-same b RodYes (Refused x) r l = no-refusal (sym l)
@@ -78,7 +83,7 @@ module _ (ps : List Policy) (ranges : Each PolicyInRange ps) (c : Condition) whe
   stand-for (leaf n) = Forall₂·cons (masks-minimal (policyAt ps n) (c .threshold) (signals-fit (policyAt ps n) (policy-in-range ps ranges n))) Forall₂·nil
   stand-for (join m a b) = one-by-one (stand-for a) (one-by-one (stand-for b) (Forall₂·cons refl Forall₂·nil))
 
-minimal-listing : (bytes : List ℕ) (number : ℕ) (lent : List ℕ) (n : ℕ) → returned (compiled bytes number (length lent)) ≡ result n
+pub minimal-listing : (bytes : List ℕ) (number : ℕ) (lent : List ℕ) (n : ℕ) → returned (compiled bytes number (length lent)) ≡ result n
     → MinimalListing bytes number (compiledListing n (lentAfter lent (compiled bytes number (length lent))))
 unfolding listingRecords translated
 minimal-listing bytes number lent n e =
@@ -96,9 +101,29 @@ minimal-listing bytes number lent n e =
 
 -- ---- the demand
 
+-- a listing that fits is compiled: as many records are returned as it has
+compiles : (bytes : List ℕ) (number : ℕ) (lent : List ℕ) (f : ListingFits bytes number lent)
+    → returned (compiled bytes number (length lent)) ≡ result (length (listingRecords (f .book) (f .condition)))
+unfolding compiled asked fitting returned
+compiles bytes number lent f =
+    rw (f .accepted, f .inBook, le-leb (length (words (listingRecords (f .book) (f .condition)))) (length lent) (f .fits)) refl
+
+-- the answer that means so many records
+records-returned : (answer : Compiled) (n : ℕ) → compiledMeaning answer ≡ result n → answer ≡ Records n
+records-returned (Records m) n e = ap Records (result-is e)
+records-returned (CompileRefused r) n e = no-refusal (sym e)
+records-returned NoSuchCondition n e = no-refusal (sym e)
+records-returned NoRoom n e = no-refusal (sym e)
+
 pub demand-3 : Demand3
-demand-3 bytes number set lent left n rod logger ran =
-    let (b, r, l) = compiled-agreement bytes number set n lent (sym (ran .compiling)) in (
-      say-same b rod logger (ran .reading ∙ ap (λ (ws : List ℕ). rodAnswer (compiledListing n ws) set) (ran .leaving) ∙ r) (ran .scoring ∙ l),
-      subst (λ (ws : List ℕ). MinimalListing bytes number (compiledListing n ws)) (sym (ran .leaving)) (minimal-listing bytes number lent n (sym (ran .compiling))),
-    )
+demand-3 bytes number lent left answer f ran =
+    let n = length (listingRecords (f .book) (f .condition)) in
+    let e = compiles bytes number lent f in
+    record {
+      count = n;
+      compiles = records-returned answer n (ran .returning ∙ e);
+      same = λ set rod logger both.
+          let (b, r, l) = compiled-agreement bytes number set n lent e in
+          say-same b rod logger (both .reading ∙ ap (λ (ws : List ℕ). rodAnswer (compiledListing n ws) set) (ran .leaving) ∙ r) (both .scoring ∙ l);
+      minimal = subst (λ (ws : List ℕ). MinimalListing bytes number (compiledListing n ws)) (sym (ran .leaving)) (minimal-listing bytes number lent n e);
+    }

@@ -1,4 +1,4 @@
--- Computed examples of the rod's reading of a condition just compiled.
+-- Computed examples of the rod's reading of a condition just compiled, and of what rod and logger say of it.
 use Prim.Native.Nat.{ℕ}
 use mathlib.Core.Bool.{Bool, true, false}
 use mathlib.Core.List.{[], _∷_}
@@ -8,6 +8,7 @@ use Rattle.rod.specs.Computing.{rodComputes}
 use Rattle.book.specs.Text.{bytes}
 use Rattle.compiler.specs.Computing.{compilerComputes}
 use Rattle.agreement.specs.CompiledReading.{compiledReading}
+use Rattle.agreement.specs.Both.{Sayings, bothSay}
 
 -- a book whose listing has two records, and just enough words
 abbrev reads : ℕ → ℕ → Answer Bool
@@ -24,3 +25,26 @@ reads-no = refl
 no-condition : reads 1 3 ≡ refused 7 0
 unfolding compiledReading compilerComputes
 no-condition = refl
+
+-- ---- rod and logger
+
+-- the same book, for so many lent words
+abbrev both : ℕ → ℕ → ℕ → Answer Sayings
+both number set lent = bothSay (bytes "p sum\nr 0 40\nc 20 < p0\n") number set lent
+
+both-yes : both 0 3 8 ≡ result (record { records = 2; rod = result true; logger = result true })
+unfolding bothSay compilerComputes
+both-yes = refl
+
+both-no : both 0 2 8 ≡ result (record { records = 2; rod = result false; logger = result false })
+unfolding bothSay compilerComputes
+both-no = refl
+
+-- a word too few; and the condition's number is tried before the room
+no-room : both 0 3 7 ≡ refused 8 0
+unfolding bothSay compilerComputes
+no-room = refl
+
+not-in-book : both 1 3 0 ≡ refused 7 0
+unfolding bothSay compilerComputes
+not-in-book = refl

@@ -5,4 +5,5 @@ pub mod Books
 pub mod LineMasks
 pub mod Demand3
 pub mod Readings
+pub mod BothLaws
 pub mod Examples

@@ -1,5 +1,5 @@
 -- Claimed: demand 3, of the calls as they run. Proved in proofs/Demand3.antt.
-use Prim.Native.Nat.{ℕ}
+use Prim.Native.Nat.{ℕ, _≤_}
 use mathlib.Core.Bool.{Bool}
 use mathlib.Core.List.{List, Forall₂}
 use mathlib.Core.Logic.{_↔_}
@@ -8,7 +8,7 @@ use lib.IntN.{ℤ}
 use lib.ListN.{length}
 use Rattle.arith.specs.Trees.{Node, value, joining, postfix}
 use Rattle.answers.specs.Answers.{result, onResult}
-use Rattle.layout.specs.Records.{records}
+use Rattle.layout.specs.Records.{words, records}
 use Rattle.layout.specs.Nodes.{ListedNode, nodes}
 use Rattle.rod.specs.Reading.{rodAnswer}
 use Rattle.rod.specs.Meaning.{rodMeaning}
@@ -17,28 +17,38 @@ use Rattle.rod.specs.declared.Decision.the-variants.{Yes as RodYes, No as RodNo
 use Rattle.peal.specs.Policies.{Rule, Policy, MinMax, Condition, Book, policyAt}
 use Rattle.peal.specs.SetsOfRules.{SetInside, IsMinimal, Among, InOrder}
 use Rattle.peal.specs.Having.{has}
-use Rattle.peal.specs.Translation.{maskOf, joinOf}
-use Rattle.book.specs.Books.{asked}
+use Rattle.peal.specs.Translation.{maskOf, joinOf, listingRecords}
+use Rattle.book.specs.Books.{read, conditionAt, asked}
 use Rattle.score.specs.Decisions.{scoredAnswer}
 use Rattle.score.specs.Meaning.{scoreMeaning}
 use Rattle.score.specs.declared.Decision.{Decision as LoggerDecision}
 use Rattle.score.specs.declared.Decision.the-variants.{Yes as LoggerYes, No as LoggerNo}
 use Rattle.compiler.specs.Compiling.{compiled, returned, lentAfter, compiledListing}
 use Rattle.compiler.specs.Meaning.{compiledMeaning}
+use Rattle.compiler.specs.declared.Compiled.{Compiled}
 use Rattle.compiler.specs.declared.Compiled.the-variants.{Records}
 use Rattle.agreement.specs.CompiledReading.{compiledReading}
 
--- ---- the calls
+-- ---- whose listing fits
 
--- an office compiles a condition of a book, hands the rod the compiled listing and a signal set, and the logger the book and the same set;
--- each field is the promise of one call about what it returned
-pub record CallsRan (bytes : List ℕ) (number set : ℕ) (lent left : List ℕ) (n : ℕ) (rod : RodDecision) (logger : LoggerDecision) : Type 0 where
-  -- `compiler::compile` returned n records, and left these words
-  pub compiling : compiledMeaning (Records n) ≡ returned (compiled bytes number (length lent))
+-- an accepted book, a condition in it, and lent words that its listing fits
+pub record ListingFits (bytes : List ℕ) (number : ℕ) (lent : List ℕ) : Type 0 where
+  pub book : Book
+  pub condition : Condition
+  pub accepted : read bytes ≡ result book
+  pub inBook : conditionAt (book .conditions) number ≡ result condition
+  pub fits : length (words (listingRecords book condition)) ≤ length lent
+
+-- ---- the calls, each by its promise about what it returned
+
+-- an office compiles a condition of a book: `compiler::compile` returned this answer, and left these words
+pub record CompilingRan (bytes : List ℕ) (number : ℕ) (lent left : List ℕ) (answer : Compiled) : Type 0 where
+  pub returning : compiledMeaning answer ≡ returned (compiled bytes number (length lent))
   pub leaving : left ≡ lentAfter lent (compiled bytes number (length lent))
-  -- `rod::decide` on the first words as compiling left them, four for each record
-  pub reading : rodMeaning rod ≡ rodAnswer (compiledListing n left) set
-  -- `score::decide`
+
+-- `rod::decide` is handed a listing and a signal set, and `score::decide` the book and the same set
+pub record BothRan (bytes : List ℕ) (number set : ℕ) (listing : List ℕ) (rod : RodDecision) (logger : LoggerDecision) : Type 0 where
+  pub reading : rodMeaning rod ≡ rodAnswer listing set
   pub scoring : scoreMeaning logger ≡ scoredAnswer bytes number set
 
 -- neither refuses, and the rod says yes exactly if the logger does
@@ -76,13 +86,22 @@ pub record MinimalListing (bytes : List ℕ) (number : ℕ) (listing : List ℕ)
 
 -- ---- the demand
 
+-- compiling returned records, not a refusal; on the compiled listing, the first words as compiling left them, rod and logger say the
+-- same of every signal set; and its lines are the minimal sets
+pub record Agreed (bytes : List ℕ) (number : ℕ) (left : List ℕ) (answer : Compiled) : Type 0 where
+  pub count : ℕ
+  pub compiles : answer ≡ Records count
+  pub same : (set : ℕ) (rod : RodDecision) (logger : LoggerDecision)
+      → BothRan bytes number set (compiledListing count left) rod logger → SaySame rod logger
+  pub minimal : MinimalListing bytes number (compiledListing count left)
+
+-- for every accepted book, each condition in it and each lent slice that its listing fits
 abbrev pub Demand3 : Type 0
 Demand3 =
-    (bytes : List ℕ) (number set : ℕ) (lent left : List ℕ) (n : ℕ) (rod : RodDecision) (logger : LoggerDecision)
-    → CallsRan bytes number set lent left n rod logger
-    → SaySame rod logger × MinimalListing bytes number (compiledListing n left)
+    (bytes : List ℕ) (number : ℕ) (lent left : List ℕ) (answer : Compiled)
+    → ListingFits bytes number lent → CompilingRan bytes number lent left answer → Agreed bytes number left answer
 
--- ---- its first half by the definitions alone
+-- ---- its agreement by the definitions alone
 
 -- where compiling returns n records, the rod's answer on the compiled listing and the logger's on the book are one yes or no
 abbrev pub CompiledAgreement : Type 0

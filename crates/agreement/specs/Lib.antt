@@ -5,3 +5,4 @@ pub mod BookAgreement
 pub mod CompiledReading
 pub mod Meaning
 pub mod Demand3
+pub mod Both

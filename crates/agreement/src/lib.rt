@@ -1,10 +1,11 @@
 // The agreement of rod and logger: the claims are in specs/ and their proofs in proofs/.
-// `compile_and_read` is a call, and takes every byte string, condition number, signal set and slice.
+// `compile_and_read` and `ask_both` are calls, and take every byte string, condition number, signal set and slice.
 ghost use mathlib.Core.Path.{_≡_};
 ghost use lib.ListN.{length};
 ghost use Rattle.compiler.specs.Compiling.{compiled, lentAfter};
 ghost use Rattle.agreement.specs.CompiledReading.{compiledReading};
 ghost use Rattle.agreement.specs.Meaning.{readingMeaning};
+ghost use Rattle.agreement.specs.Both.{bothMeaning, bothSay, leftBy, Held};
 
 // What the rod says of a condition just compiled.
 pub enum Reading {
@@ -32,5 +33,45 @@ pub fn compile_and_read(bytes: &[u8], condition: u32, set: u16, words: &mut [u32
         compiler::Compiled::Refused(refusal) => Reading::Refused(refusal),
         compiler::Compiled::NoCondition => Reading::NoCondition,
         compiler::Compiled::NoRoom => Reading::NoRoom,
+    }
+}
+
+// What rod and logger say of a condition just compiled.
+pub enum Both {
+    // How many records were compiled, and what each of the two said.
+    Said {
+        records: usize,
+        rod: rod::Decision,
+        logger: score::Decision,
+    },
+    // The book was refused.
+    Refused(book::Refusal),
+    // The book has no condition of that number.
+    NoCondition,
+    // The listing has more words than were lent.
+    NoRoom,
+}
+
+// Demand 3 as a call: the office compiles, the rod reads the compiled listing, and the logger decides from the book.
+pub fn ask_both(bytes: &[u8], condition: u32, set: u16, words: &mut [u32]) -> Both
+    ensures { λ r. ⌜ bothMeaning r ≡ bothSay (now (bytes .entry)) condition set (length (now (words .entry))) ⌝ }
+    ensures { λ r. ⌜ now (words .exit) ≡ leftBy (now (bytes .entry)) condition (now (words .entry)) ⌝ }
+    ensures { λ r. ⌜ Held (now (bytes .entry)) condition (now (words .exit)) r ⌝ }
+{
+    let answer = compiler::compile(bytes, condition, words);
+    match answer {
+        compiler::Compiled::Records(records) => {
+            let end = records * 4;
+            let by_listing = rod::decide(&words[..end], set);
+            let by_scores = score::decide(bytes, condition, set);
+            Both::Said {
+                records: records,
+                rod: by_listing,
+                logger: by_scores,
+            }
+        }
+        compiler::Compiled::Refused(refusal) => Both::Refused(refusal),
+        compiler::Compiled::NoCondition => Both::NoCondition,
+        compiler::Compiled::NoRoom => Both::NoRoom,
     }
 }

@@ -3,7 +3,8 @@ use mathlib.Core.Path.{_≡_, refl}
 use Rattle.answers.specs.Answers.{result, refused}
 use Rattle.layout.specs.Records.{bit}
 use Rattle.checks.specs.Checks.{both, differ, declined, first, second}
-use Rattle.exports.specs.Packing.{packed, countsValue, choiceValue, packedComparison}
+use Rattle.exports.specs.Packing.{packed, countsValue, itself, choiceValue, packedComparison}
+use Rattle.exports.specs.Unpacking.{codeIn, valueIn, ofFirst, numberIn, unpacked, whichOf, comparisonIn}
 
 -- two policies and one condition
 counted : packed countsValue (result (record { policies = 2; conditions = 1 })) ≡ 65600
@@ -25,7 +26,25 @@ differing : packedComparison (differ 5 first) ≡ 327776
 unfolding packedComparison
 differing = refl
 
--- record 3 of the second listing breaks the layout
+-- record 3 of the first listing breaks the layout, and record 3 of the second, whose code is 26
+first-declined : packedComparison (declined first 10 3) ≡ 106
+unfolding packedComparison
+first-declined = refl
+
 second-declined : packedComparison (declined second 10 3) ≡ 122
 unfolding packedComparison
 second-declined = refl
+
+-- the second listing has no words: code 25
+second-empty : packedComparison (declined second 9 0) ≡ 25
+unfolding packedComparison
+second-empty = refl
+
+-- the highest number that a refusal may have is told as it is, and no value is lost beside it
+highest-refusal : unpacked itself (packed itself (refused 20 7)) ≡ refused 20 7
+unfolding packed unpacked codeIn valueIn ofFirst numberIn
+highest-refusal = refl
+
+told-second : comparisonIn (packedComparison (declined second 9 0)) ≡ declined second 9 0
+unfolding packedComparison comparisonIn codeIn valueIn ofFirst numberIn whichOf
+told-second = refl

@@ -19,7 +19,7 @@ records-few : (ws : List ℕ) → length (records ws) ≤ length ws / 4
 unfolding recordsFrom
 records-few ws = omega (arith, length-drop (length ws / 4) (records ws), ap length (from-nil ws (length ws / 4) (omega arith)))
 
-judging : (most n : ℕ) (so : SoFar) (rs : List Record) → n + length rs ≤ most → Refuses most (judged n so rs)
+judging : (most n : ℕ) (so : SoFar) (rs : List Record) → n + length rs ≤ most → Refuses 9 10 most (judged n so rs)
 unfolding judged
 judging most n so [] h = tried (eqb (so .values) 1) (omega arith) (λ _. never tt)
 judging most n so (r ∷ rs) h =
@@ -27,15 +27,15 @@ judging most n so (r ∷ rs) h =
     (λ _. judging most (n + 1) (soFarAfter so (kindOf (r .kind)) r) rs (omega arith))
 
 module _ (ws : List ℕ) where
-  pub verdicts : Refuses (length ws / 4) (verdict ws)
+  pub verdicts : Refuses 9 10 (length ws / 4) (verdict ws)
   unfolding verdict
   verdicts = tried (lengthSound ws) (omega arith) (λ _. judging (length ws / 4) 0 noRecord (records ws) (omega (arith, records-few ws)))
 
-  pub rod-reading : (set : ℕ) → Refuses (length ws / 4) (rodAnswer ws set)
+  pub rod-reading : (set : ℕ) → Refuses 9 10 (length ws / 4) (rodAnswer ws set)
   unfolding rodAnswer
   rod-reading set = on-result verdicts (λ u. never _)
 
-  pub choosing : Refuses (length ws / 4) (choice ws)
+  pub choosing : Refuses 9 10 (length ws / 4) (choice ws)
   unfolding choice
   choosing = on-result verdicts (λ u. never _)
 
@@ -45,15 +45,15 @@ module _ (ws : List ℕ) where
 abbrev pub Declines : (one two : ℕ) → Comparison → Type 0
 Declines one two alike = Unit {0}
 Declines one two (differ set w) = Unit {0}
-Declines one two (declined first number value) = InTable one number value
-Declines one two (declined second number value) = InTable two number value
+Declines one two (declined first number value) = InTable 9 10 one number value
+Declines one two (declined second number value) = InTable 9 10 two number value
 
 by-sets : (one two : ℕ) (o : Option ℕ) (ws : List ℕ) → Declines one two (comparisonOf o ws)
 unfolding comparisonOf
 by-sets one two none ws = tt
 by-sets one two (some set) ws = tt
 
-by-verdicts : {one two : ℕ} {v w : Answer (Unit {0})} (c : Comparison) → Refuses one v → Refuses two w → Declines one two c → Declines one two (examined v w c)
+by-verdicts : {one two : ℕ} {v w : Answer (Unit {0})} (c : Comparison) → Refuses 9 10 one v → Refuses 9 10 two w → Declines one two c → Declines one two (examined v w c)
 unfolding examined
 by-verdicts c (by n x i) w h = i
 by-verdicts c (never u) (by n x i) h = i
@@ -66,8 +66,8 @@ comparing one two =
     (by-sets (length one / 4) (length two / 4) (lowestSet (differAt one two)) one)
 
 module _ (one two : List ℕ) {number value : ℕ} where
-  pub first-in-table : declined first number value ≡ comparison one two → InTable (length one / 4) number value
+  pub first-in-table : declined first number value ≡ comparison one two → InTable 9 10 (length one / 4) number value
   first-in-table e = subst (λ (c : Comparison). Declines (length one / 4) (length two / 4) c) (sym e) (comparing one two)
 
-  pub second-in-table : declined second number value ≡ comparison one two → InTable (length two / 4) number value
+  pub second-in-table : declined second number value ≡ comparison one two → InTable 9 10 (length two / 4) number value
   second-in-table e = subst (λ (c : Comparison). Declines (length one / 4) (length two / 4) c) (sym e) (comparing one two)

@@ -1,11 +1,11 @@
 -- The number that a call returns tells its whole answer.
-use Prim.Native.Nat.{ℕ, _+_, _*_, _/_, _%_, _≤_, _<_}
+use Prim.Native.Nat.{ℕ, _+_, _-_, _*_, _/_, _%_, _≤_, _<_}
 use mathlib.Core.Bool.{Bool, true, false, cond}
 use mathlib.Core.Path.{_≡_, refl, ap, _∙_}
 use native.Mathlib.Omega.{arith}
 use lib.Dec.{eqb}
 use lib.ListN.{length}
-use borrow.Author.Tests.{ne-eqb}
+use borrow.Author.Tests.{le-leb, lt-leb, ne-eqb}
 use Rattle.answers.specs.Answers.{Answer, result, refused}
 use Rattle.layout.specs.Records.{bit}
 use Rattle.rod.specs.Reading.{rodAnswer}
@@ -14,7 +14,7 @@ use Rattle.book.specs.Books.{Counts, checked}
 use Rattle.score.specs.Decisions.{scoredAnswer}
 use Rattle.compiler.specs.Compiling.{compiled, returned}
 use Rattle.exports.specs.Packing.{asOne, packed, countsValue, itself, choiceValue, packedComparison}
-use Rattle.exports.specs.Unpacking.{numberIn, whichIn, valueIn, unpacked, countsIn, yesIn, choiceIn, whichOf, differenceIn, comparisonIn}
+use Rattle.exports.specs.Unpacking.{codeIn, valueIn, ofFirst, numberIn, unpacked, countsIn, yesIn, choiceIn, whichOf, differenceIn, comparisonIn}
 use Rattle.exports.specs.NothingLost.{NothingLost}
 use Rattle.exports.proofs.Refusals.{Refuses, in-table}
 use Rattle.exports.proofs.BookRefusals.{checking, deciding, compiling}
@@ -23,36 +23,47 @@ use Rattle.exports.proofs.Results.{counts-small, YesBelow, choice-below
 
 -- ---- the parts of a number
 
-module _ (n w v : ℕ) (h : n < 16) (k : w < 2) where
-  number-in : numberIn (asOne n w v) ≡ n
-  unfolding numberIn
-  number-in = omega arith
+module _ (code v : ℕ) (h : code < 32) where
+  code-in : codeIn (asOne code v) ≡ code
+  unfolding codeIn
+  code-in = omega arith
 
-  which-in : whichIn (asOne n w v) ≡ w
-  unfolding whichIn
-  which-in = omega arith
-
-  value-in : valueIn (asOne n w v) ≡ v
+  value-in : valueIn (asOne code v) ≡ v
   unfolding valueIn
   value-in = omega arith
 
-  answer-in : {A : Type 0} (resultIn : ℕ → A) → unpacked resultIn (asOne n w v) ≡ cond (eqb n 0) (result (resultIn v)) (refused n v)
-  unfolding unpacked
-  answer-in resultIn = rw (number-in, value-in) refl
+  number-in : numberIn (asOne code v) ≡ cond (ofFirst code) code (code - 16)
+  unfolding numberIn
+  number-in = rw code-in refl
 
-  comparison-in : comparisonIn (asOne n w v) ≡ cond (eqb n 0) (differenceIn v) (declined (whichOf (eqb w 0)) n v)
+  answer-in : {A : Type 0} (resultIn : ℕ → A)
+      → unpacked resultIn (asOne code v) ≡ cond (eqb code 0) (result (resultIn v)) (refused (cond (ofFirst code) code (code - 16)) v)
+  unfolding unpacked
+  answer-in resultIn = rw (number-in, code-in, value-in) refl
+
+  comparison-in : comparisonIn (asOne code v)
+      ≡ cond (eqb code 0) (differenceIn v) (declined (whichOf (ofFirst code)) (cond (ofFirst code) code (code - 16)) v)
   unfolding comparisonIn
-  comparison-in = rw (number-in, which-in, value-in) refl
+  comparison-in = rw (number-in, code-in, value-in) refl
+
+first-code : (code : ℕ) → code ≤ 20 → ofFirst code ≡ true
+unfolding ofFirst
+first-code code h = le-leb code 20 h
+
+second-code : (code : ℕ) → 20 < code → ofFirst code ≡ false
+unfolding ofFirst
+second-code code h = lt-leb code 20 h
 
 -- ---- an answer
 
-module _ {A : Type 0} (valueOf : A → ℕ) (resultIn : ℕ → A) {most : ℕ} where
-  pub told-again : (a : Answer A) → Refuses most a → ((x : A) → result x ≡ a → resultIn (valueOf x) ≡ x) → unpacked resultIn (packed valueOf a) ≡ a
+module _ {A : Type 0} (valueOf : A → ℕ) (resultIn : ℕ → A) {from to most : ℕ} (low : 0 < from) (high : to ≤ 20) where
+  pub told-again : (a : Answer A) → Refuses from to most a → ((x : A) → result x ≡ a → resultIn (valueOf x) ≡ x)
+      → unpacked resultIn (packed valueOf a) ≡ a
   unfolding packed
-  told-again (result x) h g = answer-in 0 0 (valueOf x) (omega arith) (omega arith) resultIn ∙ ap result (g x refl)
+  told-again (result x) h g = answer-in 0 (valueOf x) (omega arith) resultIn ∙ ap result (g x refl)
   told-again (refused n v) h g =
       let i = in-table h refl in
-      answer-in n 0 v (omega arith) (omega arith) resultIn ∙ rw (ne-eqb n 0 (omega arith)) refl
+      answer-in n v (omega arith) resultIn ∙ rw (ne-eqb n 0 (omega arith), first-code n (omega arith)) refl
 
 counts-again : (n : Counts) → n .policies ≤ 16 → countsIn (countsValue n) ≡ n
 unfolding countsIn countsValue
@@ -88,21 +99,24 @@ difference-in k set low high =
 module _ (one two : ℕ) where
   compared-again : (c : Comparison) → Declines one two c → comparisonIn (packedComparison c) ≡ c
   unfolding packedComparison differenceIn whichOf
-  compared-again alike h = comparison-in 0 0 0 (omega arith) (omega arith)
-  compared-again (differ set first) h = comparison-in 0 0 (3 + 2048 * set) (omega arith) (omega arith) ∙ difference-in 3 set (omega arith) (omega arith)
-  compared-again (differ set second) h = comparison-in 0 0 (1 + 2048 * set) (omega arith) (omega arith) ∙ difference-in 1 set (omega arith) (omega arith)
-  compared-again (declined first n v) h = comparison-in n 0 v (omega arith) (omega arith) ∙ rw (ne-eqb n 0 (omega arith)) refl
-  compared-again (declined second n v) h = comparison-in n 1 v (omega arith) (omega arith) ∙ rw (ne-eqb n 0 (omega arith)) refl
+  compared-again alike h = comparison-in 0 0 (omega arith)
+  compared-again (differ set first) h = comparison-in 0 (3 + 2048 * set) (omega arith) ∙ difference-in 3 set (omega arith) (omega arith)
+  compared-again (differ set second) h = comparison-in 0 (1 + 2048 * set) (omega arith) ∙ difference-in 1 set (omega arith) (omega arith)
+  compared-again (declined first n v) h =
+      comparison-in n v (omega arith) ∙ rw (ne-eqb n 0 (omega arith), first-code n (omega arith)) refl
+  compared-again (declined second n v) h =
+      let back : n + 16 - 16 ≡ n = omega arith in
+      comparison-in (n + 16) v (omega arith) ∙ rw (ne-eqb (n + 16) 0 (omega arith), second-code (n + 16) (omega arith), back) refl
 
 -- ---- every call
 
 pub nothing-lost : NothingLost
 nothing-lost =
     record {
-      check = λ book. told-again countsValue countsIn (checked book) (checking book) (λ n e. counts-again n (counts-small book n e .0));
-      decide = λ book condition set. told-again bit yesIn (scoredAnswer book condition set) (deciding book condition set) (λ b e. yes-again b);
-      compile = λ book condition lent. told-again itself itself (returned (compiled book condition lent)) (compiling book condition lent) (λ n e. refl);
-      read = λ words set. told-again bit yesIn (rodAnswer words set) (rod-reading words set) (λ b e. yes-again b);
-      choose = λ words. told-again choiceValue choiceIn (choice words) (choosing words) (λ c e. choice-again c (choice-below words c e));
+      check = λ book. told-again countsValue countsIn (omega arith) (omega arith) (checked book) (checking book) (λ n e. counts-again n (counts-small book n e .0));
+      decide = λ book condition set. told-again bit yesIn (omega arith) (omega arith) (scoredAnswer book condition set) (deciding book condition set) (λ b e. yes-again b);
+      compile = λ book condition lent. told-again itself itself (omega arith) (omega arith) (returned (compiled book condition lent)) (compiling book condition lent) (λ n e. refl);
+      read = λ words set. told-again bit yesIn (omega arith) (omega arith) (rodAnswer words set) (rod-reading words set) (λ b e. yes-again b);
+      choose = λ words. told-again choiceValue choiceIn (omega arith) (omega arith) (choice words) (choosing words) (λ c e. choice-again c (choice-below words c e));
       compare = λ one two. compared-again (length one / 4) (length two / 4) (comparison one two) (comparing one two);
     }

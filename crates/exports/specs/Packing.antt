@@ -1,17 +1,22 @@
--- An answer as the one number that a call returns: bits 0 to 3 hold document 01's refusal number, 0 where the call was accepted;
--- bit 4 is 1 only where the comparison declined its second listing; the bits from 5 on hold the value.
+-- An answer as the one number that a call returns: bits 0 to 4 hold a code, the bits from 5 on hold the value.
+-- The code is 0 where the call was accepted, and else the refusal's number, of which there is room for 1 to 20;
+-- the refusals 9 and 10 of the second listing of a comparison have the codes 25 and 26.
 use Prim.Native.Nat.{ℕ, _+_, _*_}
 use Rattle.answers.specs.Answers.{Answer, result, refused}
 use Rattle.checks.specs.Checks.{Choice, always, never, both, Comparison, alike, differ, declined, first, second}
 use Rattle.book.specs.Books.{Counts}
 
-abbrev pub asOne : (number which value : ℕ) → ℕ
-asOne number which value = number + 16 * which + 32 * value
+abbrev pub asOne : (code value : ℕ) → ℕ
+asOne code value = code + 32 * value
+
+-- the code of a refusal of the second listing
+abbrev pub ofSecond : ℕ → ℕ
+ofSecond number = number + 16
 
 -- on a refusal the value is the line or record beside it, otherwise that of the result
 unfoldable pub packed : {A : Type 0} → (A → ℕ) → Answer A → ℕ
-packed valueOf (result a) = asOne 0 0 (valueOf a)
-packed valueOf (refused number value) = asOne number 0 value
+packed valueOf (result a) = asOne 0 (valueOf a)
+packed valueOf (refused number value) = asOne number value
 
 -- ---- the values of results; for yes and no it is `bit`
 
@@ -31,8 +36,8 @@ choiceValue (both y n) = 2 + 2048 * y + 134217728 * n
 
 -- the comparison: 0 alike, 1 where the second says yes, 3 where the first does, and from bit 16 on the lowest set where they differ
 unfoldable pub packedComparison : Comparison → ℕ
-packedComparison alike = asOne 0 0 0
-packedComparison (differ set first) = asOne 0 0 (3 + 2048 * set)
-packedComparison (differ set second) = asOne 0 0 (1 + 2048 * set)
-packedComparison (declined first number value) = asOne number 0 value
-packedComparison (declined second number value) = asOne number 1 value
+packedComparison alike = asOne 0 0
+packedComparison (differ set first) = asOne 0 (3 + 2048 * set)
+packedComparison (differ set second) = asOne 0 (1 + 2048 * set)
+packedComparison (declined first number value) = asOne number value
+packedComparison (declined second number value) = asOne (ofSecond number) value

@@ -1,24 +1,29 @@
 -- The answer told again from the number that a call returned, as the header's functions tell it.
-use Prim.Native.Nat.{ℕ, _/_, _%_}
+use Prim.Native.Nat.{ℕ, _-_, _/_, _%_}
 use mathlib.Core.Bool.{Bool, cond}
-use lib.Dec.{eqb}
+use lib.Dec.{eqb, leb}
 use Rattle.answers.specs.Answers.{Answer, result, refused}
 use Rattle.checks.specs.Checks.{Choice, always, never, both, Which, first, second, Comparison, alike, differ, declined}
 use Rattle.book.specs.Books.{Counts}
 
--- the refusal's number, or 0; 1 for the second listing of a comparison; the value
-unfoldable pub numberIn : ℕ → ℕ
-numberIn r = r % 16
-
-unfoldable pub whichIn : ℕ → ℕ
-whichIn r = r / 16 % 2
+-- the code and the value
+unfoldable pub codeIn : ℕ → ℕ
+codeIn r = r % 32
 
 unfoldable pub valueIn : ℕ → ℕ
 valueIn r = r / 32
 
+-- a code above 20 is the second listing's
+unfoldable pub ofFirst : ℕ → Bool
+ofFirst code = leb code 20
+
+-- the refusal's number, or 0
+unfoldable pub numberIn : ℕ → ℕ
+numberIn r = cond (ofFirst (codeIn r)) (codeIn r) (codeIn r - 16)
+
 -- the answer, from the result that a value stands for
 unfoldable pub unpacked : {A : Type 0} → (ℕ → A) → ℕ → Answer A
-unpacked resultIn r = cond (eqb (numberIn r) 0) (result (resultIn (valueIn r))) (refused (numberIn r) (valueIn r))
+unpacked resultIn r = cond (eqb (codeIn r) 0) (result (resultIn (valueIn r))) (refused (numberIn r) (valueIn r))
 
 -- ---- the results that values stand for
 
@@ -39,4 +44,4 @@ unfoldable pub differenceIn : ℕ → Comparison
 differenceIn v = cond (eqb v 0) alike (differ (v / 2048) (whichOf (eqb (v % 2048) 3)))
 
 unfoldable pub comparisonIn : ℕ → Comparison
-comparisonIn r = cond (eqb (numberIn r) 0) (differenceIn (valueIn r)) (declined (whichOf (eqb (whichIn r) 0)) (numberIn r) (valueIn r))
+comparisonIn r = cond (eqb (codeIn r) 0) (differenceIn (valueIn r)) (declined (whichOf (ofFirst (codeIn r))) (numberIn r) (valueIn r))

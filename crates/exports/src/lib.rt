@@ -13,25 +13,33 @@ ghost use Rattle.score.specs.Decisions.{scoredAnswer};
 ghost use Rattle.compiler.specs.Compiling.{compiled, returned, lentAfter};
 ghost use Rattle.exports.specs.Packing.{asOne, packed, countsValue, itself, choiceValue, packedComparison};
 
+// In a value: what stands from bit 16 of the number on, and from bit 32 on.
+const FROM_BIT_16: u64 = 2048;
+
+const FROM_BIT_32: u64 = 134217728;
+
+// By so much the code of a refusal is higher where it is the second listing's.
+const OF_SECOND: u64 = 16;
+
 // A result by its value, which has all its bits from bit 5 on if it is below 2 to the 59.
 fn accepted(value: u64) -> u64
     requires { ⌜ value < 2 ^ 59 ⌝ }
-    ensures { λ r. ⌜ r ≡ asOne 0 0 value ⌝ }
+    ensures { λ r. ⌜ r ≡ asOne 0 value ⌝ }
 {
     32 * value
 }
 
 // A refusal by its number, and the line or record beside it.
 fn refused(number: u64, value: u64) -> u64
-    requires { ⌜ (number < 16) × (value < 2 ^ 59) ⌝ }
-    ensures { λ r. ⌜ r ≡ asOne number 0 value ⌝ }
+    requires { ⌜ (number < 32) × (value < 2 ^ 59) ⌝ }
+    ensures { λ r. ⌜ r ≡ asOne number value ⌝ }
 {
     number + 32 * value
 }
 
 fn refused_book(refusal: book::Refusal) -> u64
     requires { ⌜ refusal .line < 2 ^ 59 ⌝ }
-    ensures { λ r. ⌜ r ≡ asOne (reasonNumber (refusal .reason)) 0 (refusal .line) ⌝ }
+    ensures { λ r. ⌜ r ≡ asOne (reasonNumber (refusal .reason)) (refusal .line) ⌝ }
 {
     let reason = refusal.reason;
     let line = refusal.line as u64;
@@ -40,7 +48,7 @@ fn refused_book(refusal: book::Refusal) -> u64
 
 fn refused_listing(fault: layout::Fault) -> u64
     requires { ⌜ faultValue fault < 2 ^ 59 ⌝ }
-    ensures { λ r. ⌜ r ≡ asOne (faultNumber fault) 0 (faultValue fault) ⌝ }
+    ensures { λ r. ⌜ r ≡ asOne (faultNumber fault) (faultValue fault) ⌝ }
 {
     match fault {
         layout::Fault::Length => refused(9, 0),
@@ -61,7 +69,7 @@ pub extern "C" fn cerahupo_check(bytes: &[u8]) -> u64
             policies,
             conditions,
         } => {
-            let value = policies as u64 + 2048 * conditions as u64;
+            let value = policies as u64 + FROM_BIT_16 * conditions as u64;
             accepted(value)
         }
         book::Checked::Refused(refusal) => refused_book(refusal),
@@ -119,7 +127,7 @@ pub extern "C" fn cerahupo_choice(words: &[u32]) -> u64
         checks::ChoiceAnswer::Always => accepted(0),
         checks::ChoiceAnswer::Never => accepted(1),
         checks::ChoiceAnswer::Both(y, n) => {
-            let value = 2 + 2048 * y as u64 + 134217728 * n as u64;
+            let value = 2 + FROM_BIT_16 * y as u64 + FROM_BIT_32 * n as u64;
             accepted(value)
         }
         checks::ChoiceAnswer::Declined(fault) => refused_listing(fault),
@@ -134,17 +142,17 @@ pub extern "C" fn cerahupo_compare(one: &[u32], two: &[u32]) -> u64
     match c {
         checks::ComparisonAnswer::Alike => accepted(0),
         checks::ComparisonAnswer::FirstYes(set) => {
-            let value = 3 + 2048 * set as u64;
+            let value = 3 + FROM_BIT_16 * set as u64;
             accepted(value)
         }
         checks::ComparisonAnswer::SecondYes(set) => {
-            let value = 1 + 2048 * set as u64;
+            let value = 1 + FROM_BIT_16 * set as u64;
             accepted(value)
         }
         checks::ComparisonAnswer::FirstDeclined(fault) => refused_listing(fault),
         checks::ComparisonAnswer::SecondDeclined(fault) => {
             let packed = refused_listing(fault);
-            packed + 16
+            packed + OF_SECOND
         }
     }
 }

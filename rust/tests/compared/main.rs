@@ -3,6 +3,7 @@
 //! CERAHUPO_SEED repeats a run, CERAHUPO_ROUNDS multiplies the number of inputs.
 
 mod agreed;
+mod bits;
 mod books;
 mod checks;
 mod compiling;

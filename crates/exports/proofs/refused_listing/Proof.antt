@@ -10,7 +10,7 @@ use Rattle.exports.proofs.refused_listing.Statement.{statement}
 use Rattle.exports.proofs.refused_listing.Tie as tie
 
 abbrev packedFault : Fault → ℕ
-packedFault f = asOne (faultNumber f) 0 (faultValue f)
+packedFault f = asOne (faultNumber f) (faultValue f)
 
 enum-told : tie.Need-enum-told
 enum-told c = search needs

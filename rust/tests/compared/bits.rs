@@ -1,0 +1,90 @@
+//! The numbers themselves, written out: the code in bits 0 to 4 and the value from bit 5 on.
+//! They are the numbers of the interface that had a refusal of four bits and a bit for the second listing: none has changed.
+
+use cerahupo::raw::{self, Told};
+
+const SAMPLE: &[u8] = b"p sum 0\nr 0 40\nr 1 30\nr 2 30\np min 100\nr 3 20\nc 50 < min(p0,p1)\n";
+
+/// A policy of signal 0 whose one line is its mask, and one without lines: yes on set 1, and never.
+const HELD: [u32; 8] = [16, 1, 2, 0, 4, 1, 0, 0];
+const NEVER: [u32; 4] = [16, 1, 0, 0];
+const ALWAYS: [u32; 4] = [19, 1, 0, 0];
+
+/// Sound words but for the second record, whose mask lies outside its policy's.
+const SECOND_RECORD_BROKEN: [u32; 8] = [16, 1, 2, 0, 4, 2, 0, 0];
+
+#[test]
+fn results() {
+    let mut words = [0; 28];
+    assert_eq!(raw::check(SAMPLE).0, 65_600);
+    assert_eq!(raw::decide(SAMPLE, 0, 3).0, 32);
+    assert_eq!(raw::decide(SAMPLE, 0, 0).0, 0);
+    assert_eq!(raw::compile(SAMPLE, 0, &mut words).0, 224);
+    assert_eq!(raw::read(&words, 3).0, 32);
+    assert_eq!(raw::read(&words, 11).0, 0);
+    assert_eq!(raw::choice(&words).0, 196_672);
+    assert_eq!(raw::choice(&HELD).0, 65_600);
+    assert_eq!(raw::choice(&ALWAYS).0, 0);
+    assert_eq!(raw::choice(&NEVER).0, 32);
+}
+
+#[test]
+fn comparisons() {
+    assert_eq!(raw::compare(&HELD, &HELD).0, 0);
+    assert_eq!(raw::compare(&HELD, &NEVER).0, 65_632);
+    assert_eq!(raw::compare(&NEVER, &HELD).0, 65_568);
+}
+
+#[test]
+fn refusals_of_books() {
+    let refusals: [(&[u8], u64); 7] = [
+        (&[b'p'; 8193], 1),
+        (&[b'p'; 129], 33),
+        (b"p sum", 34),
+        (b"p sum\nc 1 < p0\nr 0 1\n", 99),
+        (b"p mul\nr 0 1\nr 1 1\nr 2 1\nr 3 1\nr 4 1\nr 5 1\nr 6 1\nr 7 1\nr 8 1\n", 324),
+        (b"p sum\nr 16 1\n", 69),
+        (b"p sum\nr 0 1\nr 0 1\n", 102),
+    ];
+    for (book, number) in refusals {
+        assert_eq!(raw::check(book).0, number);
+        assert_eq!(raw::decide(book, 0, 0).0, number);
+        assert_eq!(raw::compile(book, 0, &mut []).0, number);
+    }
+    assert_eq!(raw::decide(SAMPLE, 1, 0).0, 7);
+    assert_eq!(raw::compile(SAMPLE, 1, &mut []).0, 7);
+    assert_eq!(raw::compile(SAMPLE, 0, &mut [0; 27]).0, 8);
+}
+
+#[test]
+fn refusals_of_listings() {
+    for (words, number) in [(&[][..], 9), (&HELD[..7], 9), (&[5, 0, 0, 0], 42), (&SECOND_RECORD_BROKEN, 74)] {
+        assert_eq!(raw::read(words, 0).0, number);
+        assert_eq!(raw::choice(words).0, number);
+        assert_eq!(raw::compare(words, &HELD).0, number);
+        assert_eq!(raw::compare(words, words).0, number);
+    }
+}
+
+/// Refusals 9 and 10 of the second listing have the codes 25 and 26.
+#[test]
+fn refusals_of_second_listings() {
+    assert_eq!(raw::compare(&HELD, &[]).0, 25);
+    assert_eq!(raw::compare(&HELD, &HELD[..7]).0, 25);
+    assert_eq!(raw::compare(&HELD, &[5, 0, 0, 0]).0, 58);
+    assert_eq!(raw::compare(&HELD, &SECOND_RECORD_BROKEN).0, 90);
+}
+
+#[test]
+fn numbers_taken_apart() {
+    let parts = |number| {
+        let told = Told(number);
+        (told.code(), told.number(), told.second(), told.value())
+    };
+    assert_eq!(parts(32), (0, 0, false, 1));
+    for refusal in 1..=20 {
+        assert_eq!(parts(u64::from(refusal) + 32 * 129), (refusal, refusal, false, 129));
+    }
+    assert_eq!(parts(25), (25, 9, true, 0));
+    assert_eq!(parts(90), (26, 10, true, 2));
+}
