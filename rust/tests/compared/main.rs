@@ -10,6 +10,7 @@ mod compiling;
 mod inputs;
 mod listings;
 mod reference;
+mod samples;
 mod tally;
 mod worked;
 
