@@ -1,0 +1,84 @@
+//! The functions of `include/cerahupo.h`, compiled as C and held against the same taken from the number's digits here.
+//! It wants a C compiler, `cc` or what the variable CC names.
+
+use std::io::Write;
+use std::path::{Path, PathBuf};
+use std::process::{Command, Stdio};
+use std::{env, fs};
+
+/// Compiles the C program beside this file, and returns where it is.
+fn built() -> PathBuf {
+    let root = Path::new(env!("CARGO_MANIFEST_DIR"));
+    let folder = PathBuf::from(env!("CARGO_TARGET_TMPDIR"));
+    fs::create_dir_all(&folder).expect("cargo's folder for tests can be made");
+    let program = folder.join("told");
+    let compiler = env::var("CC").unwrap_or_else(|_| "cc".to_string());
+    let status = Command::new(compiler)
+        .args(["-std=c11", "-Wall", "-Wextra", "-Werror", "-I"])
+        .arg(root.join("../include"))
+        .arg(root.join("tests/header/told.c"))
+        .arg("-o")
+        .arg(&program)
+        .status()
+        .expect("a C compiler is there");
+    assert!(status.success(), "the header compiles without a warning");
+    program
+}
+
+/// The C program's lines for some numbers.
+fn told(numbers: &[u64]) -> Vec<String> {
+    let mut child =
+        Command::new(built()).stdin(Stdio::piped()).stdout(Stdio::piped()).spawn().expect("the program was compiled");
+    let mut input = child.stdin.take().expect("standard input is piped");
+    let text: String = numbers.iter().map(|number| format!("{number}\n")).collect();
+    let writer = std::thread::spawn(move || input.write_all(text.as_bytes()));
+    let output = child.wait_with_output().expect("the program ends");
+    writer.join().expect("the writer ends").expect("all numbers are taken");
+    String::from_utf8(output.stdout).expect("it prints digits").lines().map(str::to_string).collect()
+}
+
+/// What docs/FIRMWARE.md says of a number, in the order in which the C program prints it.
+fn expected(number: u64) -> String {
+    let bits = |from: u32, to: u32| number >> from & ((1 << (to - from + 1)) - 1);
+    let code = bits(0, 4);
+    let second = code > 20;
+    let accepted = code == 0;
+    let value = number >> 5;
+    let refusal = if second { code - 16 } else { code };
+    [
+        code,
+        refusal,
+        u64::from(accepted),
+        value,
+        if second { 2 } else { 1 },
+        bits(5, 15),
+        u64::from((number >> 16) as u32),
+        u64::from(number == 32),
+        if accepted { value } else { 0 },
+        bits(5, 15),
+        bits(16, 31),
+        bits(32, 47),
+        u64::from(number == 0),
+        bits(16, 31),
+        if bits(5, 15) == 3 { 1 } else { 2 },
+    ]
+    .map(|part| part.to_string())
+    .join(" ")
+}
+
+#[test]
+fn numbers_taken_apart_in_c() {
+    let mut numbers: Vec<u64> = (0..70_000).collect();
+    let mut state = 1;
+    for _ in 0..200_000 {
+        // a step of a linear congruential sequence, whose upper bits are used
+        state = u64::wrapping_add(u64::wrapping_mul(state, 6_364_136_223_846_793_005), 1_442_695_040_888_963_407);
+        numbers.push(state >> (state >> 58));
+    }
+    numbers.extend([25, 26, 90, 65_600, 196_672, 327_776, u64::MAX]);
+    let lines = told(&numbers);
+    assert_eq!(lines.len(), numbers.len());
+    for (number, line) in numbers.into_iter().zip(lines) {
+        assert_eq!(line, expected(number), "{number}");
+    }
+}
