@@ -6,11 +6,11 @@ use mathlib.Core.Option.{Option}
 use mathlib.Core.Path.{_≡_, refl, sym, ap, _∙_}
 use native.Mathlib.Numerals.{add-one}
 use native.Mathlib.Omega.{arith}
-use lib.Dec.{leb, ltb, eqb}
-use lib.IntN.{ℤ, pos, negℤ}
+use lib.Dec.{ltb, eqb}
+use lib.IntN.{ℤ}
 use lib.ListN.{length, getD, take, drop, drop-of-length-le}
 use lib.Seq.{drop-cons, getD-take}
-use borrow.Author.Tests.{eq-eqb, ne-eqb, lt-ltb, le-ltb, le-leb, lt-leb}
+use borrow.Author.Tests.{eq-eqb, ne-eqb, lt-ltb, le-ltb}
 use Rattle.answers.specs.Answers.{result, refused}
 use Rattle.arith.specs.Lists.{every, Distinct}
 use Rattle.arith.proofs.AnyEvery.{any-map}
@@ -20,8 +20,9 @@ use Rattle.peal.specs.Policies.{Rule, Expression}
 use Rattle.peal.specs.Translation.{maskOf}
 use Rattle.peal.specs.declared.Operator.{Operator}
 use Rattle.peal.specs.declared.Sense.{Sense}
+use Rattle.limits.specs.Limits.{roomForPolicy, roomForCondition, signalInRange, thresholdInRange}
 use Rattle.book.specs.Forms.{Form, policy, rule, condition}
-use Rattle.book.specs.Acceptance.{BookSoFar, lastPolicy, inPlace, inCount, roomForRule, within, defaultInRange, scoreInRange, mentionsBelow, inRange, isNew, accept}
+use Rattle.book.specs.Acceptance.{BookSoFar, lastPolicy, inPlace, inCount, roomForRule, defaultInRange, scoreInRange, mentionsBelow, inRange, isNew, accept}
 use Rattle.book.specs.Ranges.{signalsOf}
 use Rattle.book.specs.Codes.{HoldsCodes}
 use Rattle.book.specs.Judged.{after}
@@ -66,13 +67,9 @@ module _ (so : BookSoFar) (o : Operator) (d : Option ℤ) where
   unfolding inPlace
   policy-misplaced a e h = ne-eqb (length (so .book .conditions)) 0 (λ q. omega arith)
 
-  pub policy-counted : (a : ℕ) → a ≡ length (so .book .policies) → a < 16 → inCount so (policy o d) ≡ true
+  pub policy-counted : (a : ℕ) → a ≡ length (so .book .policies) → (b : Bool) → roomForPolicy a ≡ b → inCount so (policy o d) ≡ b
   unfolding inCount
-  policy-counted a e h = lt-ltb (length (so .book .policies)) 16 (omega arith)
-
-  pub policy-uncounted : (a : ℕ) → a ≡ length (so .book .policies) → 16 ≤ a → inCount so (policy o d) ≡ false
-  unfolding inCount
-  policy-uncounted a e h = le-ltb (length (so .book .policies)) 16 (omega arith)
+  policy-counted a e b h = ap roomForPolicy (sym e) ∙ h
 
   pub policy-range : (t b : Bool) → t ≡ defaultInRange d → t ≡ b → inRange so (policy o d) ≡ b
   unfolding inRange
@@ -90,22 +87,19 @@ module _ (so : BookSoFar) (s : ℕ) (v : ℤ) where
   rule-placed t b e h = sym e ∙ h
 
   module _ (o : Operator) (same : o ≡ lastPolicy (so .book) .operator) where
-    pub rule-counted : (n : ℕ) → n ≡ length (lastPolicy (so .book) .rules) → (t b : Bool) → ((rules : List Rule) → n ≡ length rules → t ≡ roomForRule o rules) → t ≡ b
-        → inCount so (rule s v) ≡ b
+    pub rule-counted : (n : ℕ) → n ≡ length (lastPolicy (so .book) .rules) → (b : Bool) → roomForRule o n ≡ b → inCount so (rule s v) ≡ b
     unfolding inCount
-    rule-counted n e t b f h =
-        ap (λ (x : Operator). roomForRule x (lastPolicy (so .book) .rules)) (sym same)
-        ∙ sym (f (lastPolicy (so .book) .rules) e) ∙ h
+    rule-counted n e b h = ap (λ (x : Operator). roomForRule x (length (lastPolicy (so .book) .rules))) (sym same) ∙ ap (roomForRule o) (sym e) ∙ h
 
-    range-is : inRange so (rule s v) ≡ (leb s 15 && scoreInRange o v)
+    range-is : inRange so (rule s v) ≡ (signalInRange s && scoreInRange o v)
     unfolding inRange
-    range-is = ap (λ (x : Operator). leb s 15 && scoreInRange x v) (sym same)
+    range-is = ap (λ (x : Operator). signalInRange s && scoreInRange x v) (sym same)
 
-    pub signal-out : 15 < s → inRange so (rule s v) ≡ false
-    signal-out h = range-is ∙ rw (lt-leb s 15 h)
+    pub signal-out : signalInRange s ≡ false → inRange so (rule s v) ≡ false
+    signal-out h = range-is ∙ rw h
 
-    pub score-range : (t b : Bool) → s ≤ 15 → t ≡ scoreInRange o v → t ≡ b → inRange so (rule s v) ≡ b
-    score-range t b h e k = range-is ∙ rw (le-leb s 15 h) (sym e ∙ k)
+    pub score-range : signalInRange s ≡ true → (b : Bool) → scoreInRange o v ≡ b → inRange so (rule s v) ≡ b
+    score-range h b k = range-is ∙ rw h k
 
   -- the signal is new where it is not in the set of those that are there
   pub rule-new : Distinct (signalsOf (lastPolicy (so .book) .rules)) → (mask : ℕ) → mask ≡ maskOf (lastPolicy (so .book) .rules) → (t b : Bool) → t ≡ present mask s → t ≡ b
@@ -124,22 +118,18 @@ module _ (so : BookSoFar) (c : Sense) (t : ℤ) (e : Expression) where
   unfolding inPlace
   condition-placed = refl
 
-  pub condition-counted : (a : ℕ) → a ≡ length (so .book .conditions) → a < 8 → inCount so (condition c t e) ≡ true
+  pub condition-counted : (a : ℕ) → a ≡ length (so .book .conditions) → (b : Bool) → roomForCondition a ≡ b → inCount so (condition c t e) ≡ b
   unfolding inCount
-  condition-counted a q h = lt-ltb (length (so .book .conditions)) 8 (omega arith)
+  condition-counted a q b h = ap roomForCondition (sym q) ∙ h
 
-  pub condition-uncounted : (a : ℕ) → a ≡ length (so .book .conditions) → 8 ≤ a → inCount so (condition c t e) ≡ false
-  unfolding inCount
-  condition-uncounted a q h = le-ltb (length (so .book .conditions)) 8 (omega arith)
-
-  pub threshold-out : false ≡ within (negℤ (pos 200000)) (pos 200000) t → inRange so (condition c t e) ≡ false
+  pub threshold-out : thresholdInRange t ≡ false → inRange so (condition c t e) ≡ false
   unfolding inRange
-  threshold-out h = rw (← h)
+  threshold-out h = rw h
 
-  pub condition-range : true ≡ within (negℤ (pos 200000)) (pos 200000) t → (a : ℕ) → a ≡ length (so .book .policies) → (x b : Bool) → x ≡ mentionsBelow a e → x ≡ b
+  pub condition-range : thresholdInRange t ≡ true → (a : ℕ) → a ≡ length (so .book .policies) → (x b : Bool) → x ≡ mentionsBelow a e → x ≡ b
       → inRange so (condition c t e) ≡ b
   unfolding inRange
-  condition-range h a q x b m k = rw (← h) (ap (λ (n : ℕ). mentionsBelow n e) (sym q) ∙ sym m ∙ k)
+  condition-range h a q x b m k = rw h (ap (λ (n : ℕ). mentionsBelow n e) (sym q) ∙ sym m ∙ k)
 
   pub condition-new : isNew so (condition c t e) ≡ true
   unfolding isNew

@@ -54,16 +54,16 @@ unfolding defaultInRange defaultOf within
 new-in-range o none h = record { default = refl; signals = tt; distinct = tt; scores = tt; room = λ _. omega arith }
 new-in-range o (some d) h = record { default = h; signals = tt; distinct = tt; scores = tt; room = λ _. omega arith }
 
-room-in-mul : (o : Operator) (rules : List Rule) → roomForRule o rules ≡ true → o ≡ Mul → length rules < 8
+room-in-mul : (o : Operator) (rules : List Rule) → roomForRule o (length rules) ≡ true → o ≡ Mul → length rules < 8
 unfolding roomForRule
-room-in-mul o rules h e = ltb-true (length rules) 8 (subst (λ (x : Operator). roomForRule x rules ≡ true) e h)
+room-in-mul o rules h e = ltb-true (length rules) 8 (subst (λ (x : Operator). roomForRule x (length rules) ≡ true) e h)
 
 module _ (p : Policy) (h : PolicyInRange p) where
   -- sixteen different signals are all there are
   pub rules-at-most : length (p .rules) ≤ 16
   rules-at-most = omega (arith, at-most 16 (signalsOf (p .rules)) (h .signals) (h .distinct), length-map (p .rules) (λ (r : Rule). r .signal))
 
-  rule-added : (r : Rule) → roomForRule (p .operator) (p .rules) ≡ true → r .signal < 16 → scoreInRange (p .operator) (r .score) ≡ true
+  rule-added : (r : Rule) → roomForRule (p .operator) (length (p .rules)) ≡ true → r .signal < 16 → scoreInRange (p .operator) (r .score) ≡ true
       → any (λ (x : Rule). eqb (x .signal) (r .signal)) (p .rules) ≡ false → PolicyInRange (withRule p r)
   unfolding withRule
   rule-added r room small score new =

@@ -1,18 +1,18 @@
 -- Laws of reading a whole book: the lines one by one, and what the answer tells.
 use Prim.Native.Nat.{ℕ, _+_, _≤_, _<_}
-use mathlib.Core.Bool.{false}
+use mathlib.Core.Bool.{false, true}
 use mathlib.Core.List.{List}
 use mathlib.Core.Path.{_≡_, refl, sym, ap, subst, _∙_}
 use native.Mathlib.Omega.{arith}
 use lib.IntN.{ℤ}
 use lib.ListN.{length, drop}
-use borrow.Author.Tests.{le-leb, lt-leb}
 use Rattle.answers.specs.Answers.{Answer, result, refused, onResult}
 use Rattle.answers.proofs.Results.{no-refusal, result-is, gone-on, passed-up}
 use Rattle.peal.specs.Policies.{Book}
 use Rattle.book.specs.Text.{textLines}
 use Rattle.book.specs.Spelling.{upTo}
 use Rattle.book.specs.Acceptance.{BookSoFar, noLine, emptyBook}
+use Rattle.limits.specs.Limits.{bookFits}
 use Rattle.book.specs.Books.{readLine, readLines, read, Counts, checked, conditionAt}
 use Rattle.book.specs.Cells.{BookCells}
 use Rattle.book.specs.Judged.{verdictMeaning}
@@ -51,13 +51,13 @@ same-refusal j k n r e h = h ∙ ap (λ (v : Verdict). Turned (record { reason =
 
 -- ---- the book, line by line
 
-pub read-too-long : (s : List ℕ) → 8192 < length s → read s ≡ refused 1 0
+pub read-too-long : (s : List ℕ) → bookFits (length s) ≡ false → read s ≡ refused 1 0
 unfolding read
-read-too-long s h = rw (lt-leb (length s) 8192 h)
+read-too-long s h = rw h
 
-read-lines : (s : List ℕ) → length s ≤ 8192 → readLines 1 noLine (textLines s) ≡ read s
+read-lines : (s : List ℕ) → bookFits (length s) ≡ true → readLines 1 noLine (textLines s) ≡ read s
 unfolding read
-read-lines s h = rw (le-leb (length s) 8192 h)
+read-lines s h = rw h
 
 read-end : (s : List ℕ) (at n : ℕ) (so : BookSoFar) → length s ≤ at → readLines n so (textLines (drop at s)) ≡ result (so .book)
 unfolding readLines
@@ -74,7 +74,7 @@ no-cells : (cells : List ℤ) → BookCells cells emptyBook
 unfolding emptyBook conditionAt
 no-cells cells = record { policies = λ k h. absurd (omega arith); conditions = λ k c h. no-refusal (sym h) }
 
-pub start : (s : List ℕ) (cells : List ℤ) → length s ≤ 8192 → Going s 0 1 (record { inside = false; opened = 0; asked = 0 }) cells
+pub start : (s : List ℕ) (cells : List ℤ) → bookFits (length s) ≡ true → Going s 0 1 (record { inside = false; opened = 0; asked = 0 }) cells
 unfolding noLine emptyBook soFarOf
 start s cells h = record { so = noLine; held = record { left = refl; held = no-cells cells; bounded = bounded-start }; same = read-lines s h }
 

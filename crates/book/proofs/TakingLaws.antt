@@ -8,7 +8,7 @@ use native.Mathlib.Omega.{arith}
 use lib.Dec.{leb}
 use lib.IntN.{ℤ, pos, negℤ}
 use lib.ListN.{length, length-append, length-set}
-use borrow.Author.Tests.{le-leb, lt-leb, leb-true, lt-ltb, ltb-true}
+use borrow.Author.Tests.{leb-true, lt-ltb, ltb-true}
 use Rattle.answers.specs.Answers.{Answer}
 use Rattle.arith.specs.Options.{_>>=_}
 use Rattle.arith.specs.Trees.{leaf, join, treeValue}
@@ -19,6 +19,7 @@ use Rattle.peal.specs.declared.Sense.{Sense}
 use Rattle.book.specs.Text.{Line}
 use Rattle.book.specs.Expressions.{expression}
 use Rattle.book.specs.Forms.{Form, policy, rule, condition, form}
+use Rattle.limits.specs.Limits.{lineFits}
 use Rattle.book.specs.Acceptance.{BookSoFar, noLine, lastPolicy, within, scoreInRange, mentionsBelow, inPlace, inRange, defaultOf, withRule, withPolicies, withLast, withCondition, bookWith, opensRules, accept}
 use Rattle.book.specs.Books.{acceptForm, readLine}
 use Rattle.book.specs.Cells.{PolicyCells, BookCells}
@@ -175,19 +176,19 @@ condition-judged-at so c w y z x e j = subst (λ (t : ℤ). Judged so (condition
 
 -- ---- a line by its form
 
-pub taken-long : (n : ℕ) (so : BookSoFar) (l : Line) (t : Taken) (cells : List ℤ) → 128 < length (l .text) → t .verdict ≡ Refused TooLong → TakenAs n (readLine n so l) t cells
+pub taken-long : (n : ℕ) (so : BookSoFar) (l : Line) (t : Taken) (cells : List ℤ) → lineFits (length (l .text)) ≡ false → t .verdict ≡ Refused TooLong → TakenAs n (readLine n so l) t cells
 unfolding readLine
-taken-long n so l t cells h v = rw (lt-leb (length (l .text)) 128 h) (ap (λ (w : Verdict). verdictMeaning n w noLine) v)
+taken-long n so l t cells h v = rw h (ap (λ (w : Verdict). verdictMeaning n w noLine) v)
 
-module _ (n : ℕ) (so : BookSoFar) (l : Line) (t : Taken) (cells : List ℤ) (short : length (l .text) ≤ 128) where
+module _ (n : ℕ) (so : BookSoFar) (l : Line) (t : Taken) (cells : List ℤ) (short : lineFits (length (l .text)) ≡ true) where
   pub taken-open : l .ended ≡ false → t .verdict ≡ Refused NoForm → TakenAs n (readLine n so l) t cells
   unfolding readLine
-  taken-open h v = rw (le-leb (length (l .text)) 128 short, h) (ap (λ (w : Verdict). verdictMeaning n w noLine) v)
+  taken-open h v = rw (short, h) (ap (λ (w : Verdict). verdictMeaning n w noLine) v)
 
   module _ (whole : l .ended ≡ true) where
     by-form : (o : Option Form) → form (l .text) ≡ o → acceptForm n so o ≡ readLine n so l
     unfolding readLine
-    by-form o e = rw (le-leb (length (l .text)) 128 short, whole, e)
+    by-form o e = rw (short, whole, e)
 
     pub taken-form : (f : Form) → form (l .text) ≡ some f → TakenAs n (accept n so f) t cells → TakenAs n (readLine n so l) t cells
     unfolding acceptForm

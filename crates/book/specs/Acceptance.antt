@@ -3,16 +3,16 @@ use Prim.Native.Nat.{ℕ, _-_}
 use mathlib.Core.Bool.{Bool, true, false, not, _&&_}
 use mathlib.Core.List.{List, [], _∷_, _++_}
 use mathlib.Core.Option.{Option, none, some}
-use lib.Dec.{leb, ltb, eqb}
-use lib.IntN.{ℤ, pos, negℤ}
+use lib.Dec.{ltb, eqb}
+use lib.IntN.{ℤ, pos}
 use lib.ListN.{length, set}
-use lib.Signed.{leZ}
 use Rattle.arith.specs.Lists.{any}
 use Rattle.arith.specs.Trees.{treeValue}
 use Rattle.answers.specs.Answers.{Answer, result, require}
 use Rattle.peal.specs.Policies.{Rule, Policy, MinMax, Expression, Condition, Book, policyAt}
 use Rattle.peal.specs.declared.Operator.{Operator}
-use Rattle.peal.specs.declared.Operator.the-variants.{Min, Max, Sum, Mul}
+use Rattle.limits.specs.Limits.{roomForPolicy, roomForCondition, signalInRange, thresholdInRange}
+unfoldable pub use Rattle.limits.specs.Limits.{roomForRule, within, defaultInRange, scoreInRange}
 use Rattle.book.specs.Forms.{Form, policy, rule, condition}
 
 -- the book so far, and whether the line above is a `p` or an `r`
@@ -38,34 +38,11 @@ inPlace so (policy op d) = eqb (length (so .book .conditions)) 0
 inPlace so (rule s v) = so .inRules
 inPlace so (condition c t e) = true
 
--- at most 8 rules in a mul policy
-unfoldable pub roomForRule : Operator → List Rule → Bool
-roomForRule Min rules = true
-roomForRule Max rules = true
-roomForRule Sum rules = true
-roomForRule Mul rules = ltb (length rules) 8
-
 -- 4: at most 16 policies, 8 conditions, 8 rules in a mul policy
 unfoldable pub inCount : BookSoFar → Form → Bool
-inCount so (policy op d) = ltb (length (so .book .policies)) 16
-inCount so (rule s v) = roomForRule (lastPolicy (so .book) .operator) (lastPolicy (so .book) .rules)
-inCount so (condition c t e) = ltb (length (so .book .conditions)) 8
-
--- z is low to high
-unfoldable pub within : (low high z : ℤ) → Bool
-within low high z = leZ low z && leZ z high
-
--- D is −10,000 to 10,000, where it is given
-unfoldable pub defaultInRange : Option ℤ → Bool
-defaultInRange none = true
-defaultInRange (some d) = within (negℤ (pos 10000)) (pos 10000) d
-
--- V is 0 to 10,000 in sum, 0 to 100 in mul, and −10,000 to 10,000 in min and max
-unfoldable pub scoreInRange : Operator → ℤ → Bool
-scoreInRange Sum v = within (pos 0) (pos 10000) v
-scoreInRange Mul v = within (pos 0) (pos 100) v
-scoreInRange Min v = within (negℤ (pos 10000)) (pos 10000) v
-scoreInRange Max v = within (negℤ (pos 10000)) (pos 10000) v
+inCount so (policy op d) = roomForPolicy (length (so .book .policies))
+inCount so (rule s v) = roomForRule (lastPolicy (so .book) .operator) (length (lastPolicy (so .book) .rules))
+inCount so (condition c t e) = roomForCondition (length (so .book .conditions))
 
 -- each policy mentioned is one of the first n
 unfoldable pub mentionsBelow : ℕ → Expression → Bool
@@ -74,8 +51,8 @@ mentionsBelow n e = treeValue (λ (m : MinMax) a b. a && b) (λ m. ltb m n) e
 -- 5: numbers in range; S is 0 to 15; T is −200,000 to 200,000; a policy number belongs to a policy above
 unfoldable pub inRange : BookSoFar → Form → Bool
 inRange so (policy op d) = defaultInRange d
-inRange so (rule s v) = leb s 15 && scoreInRange (lastPolicy (so .book) .operator) v
-inRange so (condition c t e) = within (negℤ (pos 200000)) (pos 200000) t && mentionsBelow (length (so .book .policies)) e
+inRange so (rule s v) = signalInRange s && scoreInRange (lastPolicy (so .book) .operator) v
+inRange so (condition c t e) = thresholdInRange t && mentionsBelow (length (so .book .policies)) e
 
 -- 6: a signal occurs at most once in a policy
 unfoldable pub isNew : BookSoFar → Form → Bool

@@ -2,10 +2,10 @@
 use Prim.Native.Nat.{ℕ, zero, suc, _+_}
 use mathlib.Core.List.{List, [], _∷_}
 use mathlib.Core.Option.{Option, none, some}
-use lib.Dec.{leb}
 use lib.ListN.{length}
 use Rattle.answers.specs.Answers.{Answer, result, refused, onResult, require}
 use Rattle.peal.specs.Policies.{Condition, Book}
+use Rattle.limits.specs.Limits.{bookFits, lineFits}
 use Rattle.book.specs.Text.{Line, textLines}
 use Rattle.book.specs.Forms.{Form, form}
 use Rattle.book.specs.Acceptance.{BookSoFar, noLine, accept}
@@ -18,7 +18,7 @@ acceptForm n so (some f) = accept n so f
 -- line n: 1 where it is over 128 bytes, 2 where it has no end or no form, then 3 to 6
 unfoldable pub readLine : ℕ → BookSoFar → Line → Answer BookSoFar
 readLine n so l =
-    require (leb (length (l .text)) 128) 1 n
+    require (lineFits (length (l .text))) 1 n
     (require (l .ended) 2 n
     (acceptForm n so (form (l .text))))
 
@@ -29,7 +29,7 @@ readLines n so (l ∷ ls) = onResult (readLine n so l) (λ next. readLines (n + 
 
 -- the book's bytes: 1 with line 0 where they are over 8,192, then the lines
 unfoldable pub read : List ℕ → Answer Book
-read s = require (leb (length s) 8192) 1 0 (readLines 1 noLine (textLines s))
+read s = require (bookFits (length s)) 1 0 (readLines 1 noLine (textLines s))
 
 -- how many policies and conditions a book has
 pub record Counts : Type 0 where

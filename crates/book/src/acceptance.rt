@@ -6,46 +6,13 @@ use crate::cells::count_at;
 use crate::cells::mask_at;
 use crate::cells::operator_at;
 use crate::storing::SoFar;
-ghost use mathlib.Core.List.{List};
 ghost use mathlib.Core.Path.{_≡_};
 ghost use Prim.Native.Nat.{_≤_, _<_};
-ghost use lib.ListN.{length};
-ghost use Rattle.peal.specs.Policies.{Rule, Expression};
-ghost use Rattle.peal.specs.declared.Operator.{Operator};
+ghost use Rattle.peal.specs.Policies.{Expression};
 ghost use Rattle.book.specs.Codes.{HoldsCodes};
-ghost use Rattle.book.specs.Acceptance.{within as withinOf, roomForRule, scoreInRange, mentionsBelow};
+ghost use Rattle.book.specs.Acceptance.{mentionsBelow};
 ghost use Rattle.book.specs.Judged.{PolicyJudged, ConditionJudged};
 ghost use Rattle.book.specs.Taken.{Kept, RuleJudged};
-
-// z is low to high.
-pub fn within(low: i32, high: i32, z: i32) -> bool
-    ensures { λ r. ⌜ r ≡ withinOf low high z ⌝ }
-{
-    if low <= z { z <= high } else { false }
-}
-
-// A policy of n rules has room for one more.
-fn room_for_rule(o: peal::Operator, n: usize) -> bool
-    ensures { λ r. ⌜ ((rules : List Rule) → n ≡ length rules → r ≡ roomForRule o rules) ⌝ }
-{
-    match o {
-        peal::Operator::Mul => n < 8,
-        peal::Operator::Min => true,
-        peal::Operator::Max => true,
-        peal::Operator::Sum => true,
-    }
-}
-
-fn score_in_range(o: peal::Operator, v: i32) -> bool
-    ensures { λ r. ⌜ r ≡ scoreInRange o v ⌝ }
-{
-    match o {
-        peal::Operator::Min => within(-10000, 10000, v),
-        peal::Operator::Max => within(-10000, 10000, v),
-        peal::Operator::Sum => within(0, 10000, v),
-        peal::Operator::Mul => within(0, 100, v),
-    }
-}
 
 // Each policy that the expression mentions is one of the first n.
 fn mentions_below(codes: &[u32; 31], count: usize, n: u32) -> bool
@@ -74,37 +41,37 @@ pub fn judge_policy(asked: usize, opened: usize, ranged: bool) -> Verdict
     if 0 < asked {
         return Verdict::Refused(Reason::OutOfPlace);
     }
-    if opened >= 16 {
+    if !limits::room_for_policy(opened) {
         return Verdict::Refused(Reason::TooMany);
     }
-    if ranged {
-        return Verdict::Fine;
+    if !ranged {
+        return Verdict::Refused(Reason::OutOfRange);
     }
-    Verdict::Refused(Reason::OutOfRange)
+    Verdict::Fine
 }
 
 pub fn judge_rule(cells: &Cells, s: SoFar, signal: u32, score: i32) -> Verdict
     requires { ⌜ Kept s (now cells) ⌝ }
     ensures { λ r. ⌜ RuleJudged s (now (cells .entry)) signal score r ⌝ }
 {
-    if s.inside {
-        let k = s.opened - 1;
-        let o = operator_at(cells, k);
-        if room_for_rule(o, count_at(cells, k)) {
-            if signal > 15 {
-                return Verdict::Refused(Reason::OutOfRange);
-            }
-            if score_in_range(o, score) {
-                if signals::is_present(mask_at(cells, k), signal) {
-                    return Verdict::Refused(Reason::Repeated);
-                }
-                return Verdict::Fine;
-            }
-            return Verdict::Refused(Reason::OutOfRange);
-        }
+    if !s.inside {
+        return Verdict::Refused(Reason::OutOfPlace);
+    }
+    let k = s.opened - 1;
+    let o = operator_at(cells, k);
+    if !limits::room_for_rule(o, count_at(cells, k)) {
         return Verdict::Refused(Reason::TooMany);
     }
-    Verdict::Refused(Reason::OutOfPlace)
+    if !limits::signal_in_range(signal) {
+        return Verdict::Refused(Reason::OutOfRange);
+    }
+    if !limits::score_in_range(o, score) {
+        return Verdict::Refused(Reason::OutOfRange);
+    }
+    if signals::is_present(mask_at(cells, k), signal) {
+        return Verdict::Refused(Reason::Repeated);
+    }
+    Verdict::Fine
 }
 
 pub fn judge_condition(
@@ -117,14 +84,14 @@ pub fn judge_condition(
     requires { ⌜ (opened ≤ 16) × (n ≤ 31) ⌝ }
     ensures { λ r. ⌜ ConditionJudged asked opened threshold (now (codes .entry)) n r × (r ≡ Verdict.Fine → asked < 8) ⌝ }
 {
-    if asked >= 8 {
+    if !limits::room_for_condition(asked) {
         return Verdict::Refused(Reason::TooMany);
     }
-    if within(-200000, 200000, threshold) {
-        if mentions_below(codes, n, opened as u32) {
-            return Verdict::Fine;
-        }
+    if !limits::threshold_in_range(threshold) {
         return Verdict::Refused(Reason::OutOfRange);
     }
-    Verdict::Refused(Reason::OutOfRange)
+    if !mentions_below(codes, n, opened as u32) {
+        return Verdict::Refused(Reason::OutOfRange);
+    }
+    Verdict::Fine
 }

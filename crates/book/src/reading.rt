@@ -42,7 +42,7 @@ pub fn read(bytes: &[u8], cells: &mut Cells) -> Checked
     ensures { λ r. ⌜ ((b : PealBook) → readBook (now (bytes .entry)) ≡ result b → BookCells (now (cells .exit)) b) ⌝ }
 {
     let n = bytes.len();
-    if 8192 < n {
+    if !limits::book_fits(n) {
         return refused(Reason::TooLong, 0);
     }
     let mut s = SoFar {

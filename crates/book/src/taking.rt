@@ -5,7 +5,6 @@ use crate::acceptance::Verdict;
 use crate::acceptance::judge_condition;
 use crate::acceptance::judge_policy;
 use crate::acceptance::judge_rule;
-use crate::acceptance::within;
 use crate::cells::Cells;
 use crate::expressions::read_expression;
 use crate::lines::Line;
@@ -112,7 +111,7 @@ pub fn take_line(cells: &mut Cells, s: SoFar, line: &[u8], ended: bool) -> Taken
     requires { ⌜ Kept s (now cells) ⌝ }
     ensures { λ r. ⌜ LineTaken s (now (cells .entry)) (record { text = now (line .entry); ended = ended }) r (now (cells .exit)) ⌝ }
 {
-    if 128 < line.len() {
+    if !limits::line_fits(line.len()) {
         return refused(s, Reason::TooLong);
     }
     if !ended {
@@ -123,7 +122,7 @@ pub fn take_line(cells: &mut Cells, s: SoFar, line: &[u8], ended: bool) -> Taken
     };
     match l {
         Line::Policy { operator, default } => {
-            let ranged = within(-10000, 10000, default);
+            let ranged = limits::default_in_range(default);
             take_policy(cells, s, operator, default, ranged)
         }
         Line::BarePolicy { operator } => take_policy(cells, s, operator, 0, true),

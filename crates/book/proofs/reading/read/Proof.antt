@@ -1,10 +1,14 @@
 -- `book::reading::read`: before each line what the code keeps is the definition's, which goes on from there as the whole book does.
 use Prim.Native.Nat.{ℕ, _+_, _-_, _≤_}
+use mathlib.Core.Bool.{true}
 use mathlib.Core.List.{List}
+use mathlib.Core.Path.{_≡_, sym, _∙_}
 use native.Mathlib.Omega.{arith}
+use borrow.Author.Tests.{leb-true, not-true, not-false}
 use borrow.Author.Needs.{needs}
 use denote.Ref.{now}
 use lib.ListN.{length}
+use Rattle.limits.specs.Limits.{bookFits}
 use Rattle.book.specs.declared.Reason.the-variants.{TooLong}
 use Rattle.book.proofs.TextLaws.{end-within}
 use Rattle.book.proofs.ReadLaws.{Going, start, going-refused, going-on, tells-refusal, tells-book, read-too-long}
@@ -23,19 +27,26 @@ module _ (c : tie.After-next-byte Inv-loop μ-loop) where
   turn = c .before .before
 
   abbrev text : List ℕ
-  text = now (turn .before .before .before .args .bytes)
+  text = now (turn .before .before .before .before .args .bytes)
 
   line-within : c .next-byte .result ≤ length text
   line-within = end-within 10 text (turn .loop .at) _ (omega arith) (c .next-byte .ensures)
+
+book-fits-requires : tie.Need-book-fits-requires Inv-loop μ-loop
+book-fits-requires c κs = search needs
+
+-- the book is not too long
+short : (c : tie.Else1 Inv-loop μ-loop) → bookFits (length (now (c .before .before .before .args .bytes))) ≡ true
+short c = sym (c .before .book-fits .ensures) ∙ not-false _ (c .if1 .left)
 
 refused-requires : tie.Need-refused-requires Inv-loop μ-loop
 refused-requires c κs = search needs
 
 returns : tie.Need-returns Inv-loop μ-loop
-returns c = tells-refusal _ TooLong 0 _ _ (read-too-long _ (c .before .if1 .taken)) (c .refused .ensures)
+returns c = tells-refusal _ TooLong 0 _ _ (read-too-long _ (sym (c .before .before .book-fits .ensures) ∙ not-true _ (c .before .if1 .taken))) (c .refused .ensures)
 
 loop-holds : tie.Need-loop-holds Inv-loop μ-loop
-loop-holds c = (omega arith, start _ _ (c .if1 .left))
+loop-holds c = (omega arith, start _ _ (short c))
 
 next-byte-requires : tie.Need-next-byte-requires Inv-loop μ-loop
 next-byte-requires c κs = omega arith
@@ -77,7 +88,7 @@ add-at : tie.Need-add-at Inv-loop μ-loop
 add-at c = omega (arith, line-within (c .before .before .before .before .before .before))
 
 add-line : tie.Need-add-line Inv-loop μ-loop
-add-line c = let l = turn (c .before .before .before .before .before .before) in omega (arith, l .loop .inv .0, l .before .if1 .left)
+add-line c = let x = c .before .before .before .before .before .before in let l = turn x in omega (arith, l .loop .inv .0, leb-true (length (text x)) 8192 (short (l .before)))
 
 loop-less : tie.Need-loop-less Inv-loop μ-loop
 loop-less c =
@@ -105,6 +116,7 @@ read-spec =
     (tie.spec
     Inv-loop
     μ-loop
+    book-fits-requires
     refused-requires
     returns
     loop-holds

@@ -1,8 +1,8 @@
--- `book::acceptance::room_for_rule`: each operator by its arm.
-use Rattle.book.specs.Acceptance.{roomForRule}
+-- `limits::room_for_rule`: each operator by its arm.
+use Rattle.limits.specs.Limits.{roomForRule}
 use borrow.Author.Needs.{needs}
-use Rattle.book.proofs.acceptance.room_for_rule.Statement.{statement}
-use Rattle.book.proofs.acceptance.room_for_rule.Tie as tie
+use Rattle.limits.proofs.room_for_rule.Statement.{statement}
+use Rattle.limits.proofs.room_for_rule.Tie as tie
 
 enum-told : tie.Need-enum-told
 enum-told c = search needs
@@ -18,19 +18,19 @@ enum-told-4 c = search needs
 
 returns : tie.Need-returns
 unfolding roomForRule
-returns c = λ rules e. rw (c .enum-told .given .1, e)
+returns c = rw (c .enum-told .given .1)
 
 returns-2 : tie.Need-returns-2
 unfolding roomForRule
-returns-2 c = λ rules e. rw (c .enum-told2 .given .1)
+returns-2 c = rw (c .enum-told2 .given .1)
 
 returns-3 : tie.Need-returns-3
 unfolding roomForRule
-returns-3 c = λ rules e. rw (c .enum-told3 .given .1)
+returns-3 c = rw (c .enum-told3 .given .1)
 
 returns-4 : tie.Need-returns-4
 unfolding roomForRule
-returns-4 c = λ rules e. rw (c .enum-told4 .given .1)
+returns-4 c = rw (c .enum-told4 .given .1)
 
 pub room-for-rule-spec : {M : Type 1} → statement M
 room-for-rule-spec =

@@ -1,12 +1,12 @@
--- `book::acceptance::score_in_range`: each operator by its arm.
+-- `limits::score_in_range`: each operator by its arm.
 use mathlib.Core.Path.{_∙_, ap}
 use lib.IntN.{pos, negℤ}
 use mir.Syntax.{w32}
 use mir.ValLaws.{toZ-ofZ}
-use Rattle.book.specs.Acceptance.{within, scoreInRange}
+use Rattle.limits.specs.Limits.{within, scoreInRange}
 use borrow.Author.Needs.{needs}
-use Rattle.book.proofs.acceptance.score_in_range.Statement.{statement}
-use Rattle.book.proofs.acceptance.score_in_range.Tie as tie
+use Rattle.limits.proofs.score_in_range.Statement.{statement}
+use Rattle.limits.proofs.score_in_range.Tie as tie
 
 enum-told : tie.Need-enum-told
 enum-told c = search needs

@@ -1,12 +1,12 @@
--- `book::acceptance::within`: what is kept of the numbers is the numbers.
+-- `limits::within`: what is kept of the numbers is the numbers.
 use mathlib.Core.Bool.{true, false}
 use mathlib.Core.Path.{_≡_}
 use lib.Signed.{leZ}
 use mir.Syntax.{w32}
 use mir.ValLaws.{toZ-ofZ}
-use Rattle.book.specs.Acceptance.{within}
-use Rattle.book.proofs.acceptance.within.Statement.{statement}
-use Rattle.book.proofs.acceptance.within.Tie as tie
+use Rattle.limits.specs.Limits.{within}
+use Rattle.limits.proofs.within.Statement.{statement}
+use Rattle.limits.proofs.within.Tie as tie
 
 returns : tie.Need-returns
 unfolding within
