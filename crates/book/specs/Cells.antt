@@ -52,7 +52,7 @@ pub record BookCells (cells : List ℤ) (b : Book) : Type 0 where
   pub policies : (k : ℕ) → k < length (b .policies) → PolicyCells cells k (policyAt (b .policies) k)
   pub conditions : (k : ℕ) (c : Condition) → conditionAt (b .conditions) k ≡ result c → ConditionCells cells k c
 
--- a policy by value: its rules as two arrays of 16, with zeros behind them
+-- a policy by value: its rules as two arrays of 16, with zeros after them
 unfoldable pub storedPolicy : Policy → StoredPolicy
 storedPolicy p =
     record {

@@ -35,7 +35,7 @@ pub record ExpressionRead (line : List ℕ) (at : ℕ) (r : Parse) (codes : List
   pub told : ParsedAs r codes (expression (drop at line))
   pub few : r .ok ≡ true → r .length ≤ 31
 
--- before reading at a place of a line of at most 128 bytes, with n codes so far: behind at least 6 bytes and 4 for each code,
+-- before reading at a place of a line of at most 128 bytes, with n codes so far: after at least 6 bytes and 4 for each code,
 -- so that 31 cells are enough
 pub record CanRead (line : List ℕ) (at n : ℕ) : Type 0 where
   pub short : length line ≤ 128

@@ -47,7 +47,7 @@ opening s =
 unfoldable pub joinedPair : MinMax → Expression × Expression × List ℕ → Option (Expression × List ℕ)
 joinedPair m (a, b, s) = some (join m a b, s)
 
--- an expression by its opening; `pair` reads the pair behind `min` or `max`
+-- an expression by its opening; `pair` reads the pair after `min` or `max`
 unfoldable pub byOpening : Opening → (List ℕ → Option (Expression × Expression × List ℕ)) → Option (Expression × List ℕ)
 byOpening (mentions s) pair = mention s
 byOpening (joins m s) pair = pair s >>= joinedPair m
@@ -70,7 +70,7 @@ unfoldable mutual
     x ← after (bytes ")") w
     some (a, b, x)
 
--- nothing stands behind the expression
+-- nothing stands after the expression
 unfoldable pub nothingBehind : Option (Expression × List ℕ) → Option Expression
 nothingBehind none = none
 nothingBehind (some (e, [])) = some e

@@ -21,7 +21,7 @@ lineMeaning line (Good (Condition c t i)) = do
   some (condition c t e)
 lineMeaning line NoForm = none
 
--- a condition's expression begins in the line, behind six bytes at least
+-- a condition's expression begins in the line, after six bytes at least
 abbrev pub StartIn : List ℕ → LineRead → Type 0
 StartIn line (Good (Policy o d)) = Unit {0}
 StartIn line (Good (BarePolicy o)) = Unit {0}

@@ -12,7 +12,7 @@ use Rattle.arith.specs.Options.{if_then_}
 unfoldable pub isDigit : ℕ → Bool
 isDigit b = leb 48 b && leb b 57
 
--- the number n with further digits behind it; nothing where a byte is no digit
+-- the number n with further digits after it; nothing where a byte is no digit
 unfoldable pub withDigits : ℕ → List ℕ → Option ℕ
 withDigits n [] = some n
 withDigits n (b ∷ s) = if isDigit b then withDigits (n * 10 + (b - 48)) s

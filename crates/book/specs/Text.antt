@@ -29,7 +29,7 @@ unfoldable pub parted : ℕ → List ℕ → List (List ℕ)
 parted x [] = [] ∷ []
 parted x (b ∷ s) = cond (eqb b x) ([] ∷ parted x s) (longer b (parted x s))
 
--- pieces as lines: each but the last is ended; behind the last end there is no further line
+-- pieces as lines: each but the last is ended; after the last end there is no further line
 unfoldable pub asLines : List (List ℕ) → List Line
 asLines [] = []
 asLines ([] ∷ []) = []

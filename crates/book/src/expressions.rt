@@ -11,7 +11,7 @@ ghost use Prim.Native.Nat.{_≤_, _<_, _+_};
 ghost use lib.ListN.{length, set};
 ghost use Rattle.book.specs.Codes.{CanRead, SetRead, PairRead, ExpressionRead};
 
-// The place behind what was read, and how many codes stand in the lent cells then, in the order left, right, join:
+// The place after what was read, and how many codes stand in the lent cells then, in the order left, right, join:
 // 0 is min, 1 is max, n + 2 is policy n. Where `ok` is false, nothing was read and the rest means nothing.
 pub struct Parse {
     pub ok: bool,
@@ -43,7 +43,7 @@ fn put_code(codes: &mut [u32; 31], n: usize, code: u32, at: usize) -> Parse
     }
 }
 
-// An expression at `at`: `p` and a policy number, or `min` or `max` and a pair. Its codes are put behind the n so far.
+// An expression at `at`: `p` and a policy number, or `min` or `max` and a pair. Its codes are put after the n so far.
 fn read_set(line: &[u8], at: usize, codes: &mut [u32; 31], n: usize) -> Parse
     requires { ⌜ CanRead (now line) at n ⌝ }
     ensures { λ r. ⌜ SetRead (now (line .entry)) at n (now (codes .entry)) r (now (codes .exit)) ⌝ }

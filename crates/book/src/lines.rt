@@ -80,7 +80,7 @@ fn three_fields(kind: &[u8], second: &[u8], third: &[u8]) -> LineRead
     LineRead::NoForm
 }
 
-// `c T < E`, or `c T >= E`, where E is what stands from `start` on: behind these three fields and a space after each.
+// `c T < E`, or `c T >= E`, where E is what stands from `start` on: after these three fields and a space after each.
 fn four_fields(kind: &[u8], second: &[u8], third: &[u8], start: usize) -> LineRead
     ensures { λ r. ⌜ ((line : List ℕ)
         → 3 + length (now (kind .entry)) + length (now (second .entry)) + length (now (third .entry)) ≤ start
@@ -103,7 +103,7 @@ fn four_fields(kind: &[u8], second: &[u8], third: &[u8], start: usize) -> LineRe
     LineRead::NoForm
 }
 
-// A line without its end: its fields stand from a0 to e0, from a1 to e1, and so on. A condition's expression begins behind
+// A line without its end: its fields stand from a0 to e0, from a1 to e1, and so on. A condition's expression begins after
 // six bytes at least, which bounds how many codes it can have.
 pub fn read_line(line: &[u8]) -> LineRead
     ensures { λ r. ⌜ (lineMeaning (now (line .entry)) r ≡ form (now (line .entry))) × StartIn (now (line .entry)) r ⌝ }

@@ -6,7 +6,7 @@ use printing::print;
 use printing::print_number;
 use printing::print_refusal;
 use printing::print_score;
-use vectors::behind;
+use vectors::after_word;
 use vectors::line_end;
 use vectors::number_at;
 use vectors::put_line_ends;
@@ -40,14 +40,14 @@ fn run_decide(line: &[u8], at: usize)
 }
 
 fn run_line(line: &mut [u8]) {
-    if behind(line, b"#") > 0 {
+    if after_word(line, b"#") > 0 {
         print(line);
         print(b"\n");
         return;
     }
     put_line_ends(line);
-    let checked = behind(line, b"check ");
-    let decided = behind(line, b"decide ");
+    let checked = after_word(line, b"check ");
+    let decided = after_word(line, b"decide ");
     if checked > 0 {
         print_checked(book::check(&line[checked..]));
     } else if decided > 0 {

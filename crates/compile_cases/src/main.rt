@@ -11,7 +11,7 @@ use printing::print_number;
 use printing::print_refusal;
 use printing::print_rod;
 use printing::print_score;
-use vectors::behind;
+use vectors::after_word;
 use vectors::line_end;
 use vectors::number_at;
 use vectors::put_line_ends;
@@ -244,10 +244,10 @@ fn run_agree(line: &[u8], at: usize, words: &mut [u32])
 }
 
 fn run_vector(line: &[u8], words: &mut [u32]) {
-    let compiled = behind(line, b"compile ");
-    let large = behind(line, b"large ");
-    let decided = behind(line, b"decide ");
-    let agreed = behind(line, b"agree ");
+    let compiled = after_word(line, b"compile ");
+    let large = after_word(line, b"large ");
+    let decided = after_word(line, b"decide ");
+    let agreed = after_word(line, b"agree ");
     if compiled > 0 {
         run_compile(line, compiled, words, false);
     } else if large > 0 {
@@ -262,7 +262,7 @@ fn run_vector(line: &[u8], words: &mut [u32]) {
 }
 
 fn run_line(line: &mut [u8], words: &mut [u32]) {
-    if behind(line, b"#") > 0 {
+    if after_word(line, b"#") > 0 {
         print(line);
         print(b"\n");
         return;

@@ -57,7 +57,7 @@ fn has_reached(o: peal::Operator, plan: &[i64; 68], count: usize, value: i64) ->
 
 // The sets found from the rules taken, whose signals are the mask, and the `rank` rules of lowest rank, as lines from
 // record `at` on; record `last` is the policy's last line. The rules taken do not have the property. Returns the number
-// of the record behind.
+// of the record after them.
 fn search(
     o: peal::Operator,
     plan: &[i64; 68],
@@ -94,7 +94,7 @@ fn search(
 }
 
 // The lines of a policy under threshold t, from record `at` on; record `last` is the last of them. Returns the number of
-// the record behind.
+// the record after them.
 pub fn put_lines(p: book::Policy, t: i32, words: &mut [u32], at: usize, last: usize) -> usize
     requires { ⌜ (0 < at) × (at < 2 ^ 31) × PolicyByValue p × ThresholdFits t ⌝ }
     ensures { λ r. ⌜ ((q : PealPolicy) → p ≡ storedPolicy q → PolicyInRange q → r ≡ at + length (lines (q .operator) t (q .rules))) ⌝ }

@@ -223,7 +223,7 @@ fn is_sound_line(words: &[u32], i: usize, mask: u16) -> bool
     signals::lies_inside(r.mask, mask)
 }
 
-// An index behind the record at index `node`, with nothing but sound lines of it between.
+// An index after the record at index `node`, with nothing but sound lines of it between.
 // Most records are lines: here each is judged, and found to be no node, in one reading.
 fn after_lines(words: &[u32], node: usize) -> usize
     requires { ⌜ node * 4 + 4 ≤ length (now words) ⌝ }

@@ -11,8 +11,8 @@ fn print_end() {
     print(b"\n");
 }
 
-// What stands behind the i-th word: a record has four, on a line.
-fn print_behind(i: usize) {
+// What stands after the i-th word: a record has four, on a line.
+fn print_after(i: usize) {
     if i % 4 == 0 {
         print_end();
     } else {
@@ -26,7 +26,7 @@ fn print_records(words: &[u32]) {
         let word = words[i];
         print_number(word as u64);
         i += 1;
-        print_behind(i);
+        print_after(i);
     }
 }
 

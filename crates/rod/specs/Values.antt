@@ -31,11 +31,11 @@ lineAt ws i = getD ws (i * 4 + 1) 0
 abbrev pub AllSets : List ℕ → Type 0
 AllSets ls = Each (λ (l : ℕ). l ≤ 65535) ls
 
--- the policy at an index, with its flags and the lines behind it
+-- the policy at an index, with its flags and the lines after it
 abbrev pub policyAt : List ℕ → ℕ → Bool → Bool → ListedPolicy
 policyAt ws at quiet turned = record { quiet = quiet; turned = turned; mask = getD ws (at * 4 + 1) 0; lines = leadingLines (recordsFrom ws (at + 1)) }
 
--- the index behind a node and its lines
+-- the index after a node and its lines
 unfoldable pub nodeEnd : List ℕ → ℕ → ℕ
 nodeEnd ws at = at + 1 + length (leadingLines (recordsFrom ws (at + 1)))
 

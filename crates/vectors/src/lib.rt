@@ -3,7 +3,7 @@ ghost use Prim.Native.Nat.{_≤_};
 ghost use mathlib.Core.Path.{_≡_};
 ghost use lib.ListN.{length};
 
-// A number in a line, and the index behind the byte that ends it.
+// A number in a line, and the index after the byte that ends it.
 pub struct Number {
     pub value: u32,
     pub next: usize,
@@ -42,8 +42,8 @@ pub fn number_at(line: &[u8], at: usize) -> Number
     }
 }
 
-// The index behind the word that the line begins with, or 0 if it begins otherwise.
-pub fn behind(line: &[u8], word: &[u8]) -> usize
+// The index after the word that the line begins with, or 0 if it begins otherwise.
+pub fn after_word(line: &[u8], word: &[u8]) -> usize
     ensures { λ r. ⌜ r ≤ length (now (line .entry)) ⌝ }
 {
     if line.len() < word.len() {

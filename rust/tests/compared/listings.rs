@@ -17,7 +17,7 @@ fn read() {
             1 => listings::soup(&mut random),
             _ => listings::damaged(most_lines, &mut random),
         };
-        // What lies behind the listing looks like more of it.
+        // What lies after the listing looks like more of it.
         let inside = Inside::new(&words, &mut random, |random| *random.pick(&[0, 2, 4, 16, 19]));
         tally.count_answer(agreed::read(inside.slice(), random.set()), |decision| match decision {
             Decision::Yes => "yes",

@@ -30,8 +30,8 @@ print-number-requires c κs = search needs
 add-i : tie.Need-add-i Inv-loop μ-loop
 add-i c = search needs
 
-print-behind-requires : tie.Need-print-behind-requires Inv-loop μ-loop
-print-behind-requires c κs = search needs
+print-after-requires : tie.Need-print-after-requires Inv-loop μ-loop
+print-after-requires c κs = search needs
 
 loop-less : tie.Need-loop-less Inv-loop μ-loop
 loop-less c = search needs
@@ -54,7 +54,7 @@ print-records-spec =
     cast-print-number
     print-number-requires
     add-i
-    print-behind-requires
+    print-after-requires
     loop-less
     loop-again
     returns)

@@ -159,7 +159,7 @@ fn condition(threshold: &str, sense: Sense, set: &str) -> Option<Form> {
     Some(Form::Condition(Condition { threshold: number(threshold)?, sense, expression }))
 }
 
-/// An expression from the front of a text, and the text behind it.
+/// An expression from the front of a text, and the text after it.
 fn expression(text: &str) -> Option<(Expression, &str)> {
     if let Some(inner) = text.strip_prefix("min(") {
         let (left, right, rest) = pair(inner)?;

@@ -86,7 +86,7 @@ fn take_join(records: &[Record], place: usize, so_far: &mut SoFar) -> Option<()>
     Some(())
 }
 
-/// The number of the record at a place, 0 behind the last.
+/// The number of the record at a place, 0 after the last.
 fn number_at(records: &[Record], place: usize) -> usize {
     if place < records.len() { place + 1 } else { 0 }
 }

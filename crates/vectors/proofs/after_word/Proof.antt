@@ -1,9 +1,9 @@
--- `vectors::behind`: the index stays in the word, which is no longer than the line.
+-- `vectors::after_word`: the index stays in the word, which is no longer than the line.
 use Prim.Native.Nat.{_-_, _≤_}
 use lib.ListN.{length}
 use borrow.Author.Needs.{needs}
-use Rattle.vectors.proofs.behind.Statement.{statement}
-use Rattle.vectors.proofs.behind.Tie as tie
+use Rattle.vectors.proofs.after_word.Statement.{statement}
+use Rattle.vectors.proofs.after_word.Tie as tie
 
 abbrev Inv-loop : tie.InvT-loop
 Inv-loop line word i₀ i = (i ≤ length word) × (length word ≤ length line)
@@ -38,8 +38,8 @@ loop-again c = search needs
 returns-3 : tie.Need-returns-3 Inv-loop μ-loop
 returns-3 c = search needs
 
-pub behind-spec : {M : Type 1} → statement M
-behind-spec =
+pub after-word-spec : {M : Type 1} → statement M
+after-word-spec =
     tie.close
     (tie.spec
     Inv-loop
