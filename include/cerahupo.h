@@ -3,9 +3,9 @@
  * Link libexports.a, which `rt staticlib exports` writes for x86-64 Linux. It uses memcpy and memset of the C library and
  * nothing else, keeps no state and allocates nothing, so calls may run side by side.
  *
- * A book is bytes, a listing is 32-bit words, four a record; document 01 says what both mean. Each is handed over as a pointer
- * and a number of elements; with 0 elements the pointer may be anything, NULL too. Every input has an answer: none has to be
- * checked before a call. Nothing is written but the words lent to cerahupo_compile.
+ * A book is bytes, a listing is 32-bit words, four a record; docs/OFFICE.md and docs/LISTING.md say what both mean. Each is
+ * handed over as a pointer and a number of elements; with 0 elements the pointer may be anything, NULL too. Every content has an
+ * answer: none has to be checked before a call. Nothing is written but the words lent to cerahupo_compile.
  *
  * A call returns one number, which tells its whole answer:
  *
