@@ -31,7 +31,7 @@ use Rattle.book.specs.Acceptance.{within, scoreInRange}
 use Rattle.book.specs.Ranges.{PolicyInRange}
 use Rattle.book.proofs.ScoreSizes.{InScore, range-fits}
 use Rattle.compiler.specs.Worth.{start, worth, limitOf, reachedOf}
-use Rattle.compiler.specs.RankOrder.{withRules, inRankOrder}
+use Rattle.ranking.specs.RankOrder.{withRules, inRankOrder}
 use Rattle.compiler.specs.Planning.{restOf, nextRule, RulesInRange, Row, PlanFor}
 use Rattle.compiler.specs.Searching.{Searching, Masked, found}
 use Rattle.compiler.proofs.WorthLaws.{worth-has, worth-append}

@@ -2,7 +2,6 @@
 // `compile` is the call, and takes every byte string, condition number and slice. The modules are this crate's own.
 mod nodes;
 mod planning;
-mod ranking;
 mod searching;
 mod writing;
 

@@ -3,7 +3,6 @@
 // For this crate only: no other can name these functions, and each call is proved to meet its condition.
 use crate::planning::planned;
 use crate::planning::start;
-use crate::ranking::in_rank_order;
 use crate::writing::put_line;
 ghost use mathlib.Core.Bool.{false};
 ghost use mathlib.Core.List.{List, _++_, map};
@@ -100,7 +99,7 @@ pub fn put_lines(p: book::Policy, t: i32, words: &mut [u32], at: usize, last: us
     ensures { λ r. ⌜ ((q : PealPolicy) → p ≡ storedPolicy q → PolicyInRange q → r ≡ at + length (lines (q .operator) t (q .rules))) ⌝ }
     ensures { λ r. ⌜ ((q : PealPolicy) → p ≡ storedPolicy q → PolicyInRange q → now (words .exit) ≡ putRecords (now (words .entry)) at (linesUpTo last at (map maskOf (lines (q .operator) t (q .rules))))) ⌝ }
 {
-    let q = in_rank_order(p);
+    let q = ranking::in_rank_order(p);
     let o = q.operator;
     let n = q.count;
     let plan = planned(q, t);
@@ -139,7 +138,7 @@ pub fn count_lines(p: book::Policy, t: i32) -> usize
     requires { ⌜ PolicyByValue p × ThresholdFits t ⌝ }
     ensures { λ r. ⌜ ((q : PealPolicy) → p ≡ storedPolicy q → PolicyInRange q → r ≡ length (lines (q .operator) t (q .rules))) ⌝ }
 {
-    let q = in_rank_order(p);
+    let q = ranking::in_rank_order(p);
     let o = q.operator;
     let n = q.count;
     let plan = planned(q, t);

@@ -15,10 +15,10 @@ use Rattle.book.specs.Ranges.{PolicyInRange}
 use Rattle.book.specs.Cells.{storedPolicy}
 use Rattle.book.specs.declared.cells.Policy.{Policy as StoredPolicy}
 use Rattle.book.proofs.StoredRules.{count-is, kept-count}
-use Rattle.compiler.specs.RankOrder.{inRankOrder}
+use Rattle.ranking.specs.RankOrder.{inRankOrder}
 use Rattle.compiler.specs.Planning.{ThresholdFits, PlanFor}
 use Rattle.compiler.specs.Searching.{Searching, found}
-use Rattle.compiler.proofs.RankOrderLaws.{ranked-in-range}
+use Rattle.compiler.proofs.RankedLaws.{ranked-in-range}
 use Rattle.compiler.proofs.SearchingLaws.{none-coming, beginning, found-lines, found-itself}
 use Rattle.compiler.proofs.searching.count_lines.Statement.{statement}
 use Rattle.compiler.proofs.searching.count_lines.Tie as tie
