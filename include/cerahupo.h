@@ -44,8 +44,8 @@ uint64_t cerahupo_compile(const uint8_t *book, size_t book_length, uint32_t cond
 /* The rod's reading of a listing on a signal set. Result: yes or no. Refusals: 9, or 10 with the record, which counts from 1. */
 uint64_t cerahupo_read(const uint32_t *words, size_t words_length, uint16_t set);
 
-/* The choice check of a listing over all 65,536 signal sets. Result: always, never, or both with the lowest set that gives yes
- * and the lowest that gives no. Refusals: those of cerahupo_read. */
+/* The choice check of a listing over all 65,536 signal sets. Result: always, never or both; for both also the lowest yes set and
+ * the lowest no set. Refusals: those of cerahupo_read. */
 uint64_t cerahupo_choice(const uint32_t *words, size_t words_length);
 
 /* The comparison of two listings, which may overlap, over all 65,536 signal sets. Result: alike, or the lowest set where they
