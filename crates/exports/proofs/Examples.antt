@@ -4,7 +4,7 @@ use Rattle.answers.specs.Answers.{result, refused}
 use Rattle.layout.specs.Records.{bit}
 use Rattle.checks.specs.Checks.{both, differ, declined, first, second}
 use Rattle.exports.specs.Packing.{packed, countsValue, itself, choiceValue, packedComparison}
-use Rattle.exports.specs.Unpacking.{codeIn, valueIn, ofFirst, numberIn, unpacked, whichOf, comparisonIn}
+use Rattle.exports.specs.Unpacking.{codeIn, valueIn, ofFirst, numberOf, unpacked, whichOf, comparisonIn}
 
 -- two policies and one condition
 counted : packed countsValue (result (record { policies = 2; conditions = 1 })) ≡ 65600
@@ -42,9 +42,9 @@ second-empty = refl
 
 -- the highest number that a refusal may have is told as it is, and no value is lost beside it
 highest-refusal : unpacked itself (packed itself (refused 20 7)) ≡ refused 20 7
-unfolding packed unpacked codeIn valueIn ofFirst numberIn
+unfolding packed unpacked codeIn valueIn ofFirst numberOf
 highest-refusal = refl
 
 told-second : comparisonIn (packedComparison (declined second 9 0)) ≡ declined second 9 0
-unfolding packedComparison comparisonIn codeIn valueIn ofFirst numberIn whichOf
+unfolding packedComparison comparisonIn codeIn valueIn ofFirst numberOf whichOf
 told-second = refl

@@ -13,8 +13,8 @@ use Rattle.checks.specs.Checks.{Choice, always, never, both, choice, Comparison
 use Rattle.book.specs.Books.{Counts, checked}
 use Rattle.score.specs.Decisions.{scoredAnswer}
 use Rattle.compiler.specs.Compiling.{compiled, returned}
-use Rattle.exports.specs.Packing.{asOne, packed, countsValue, itself, choiceValue, packedComparison}
-use Rattle.exports.specs.Unpacking.{codeIn, valueIn, ofFirst, numberIn, unpacked, countsIn, yesIn, choiceIn, whichOf, differenceIn, comparisonIn}
+use Rattle.exports.specs.Packing.{asOne, ofSecond, packed, countsValue, itself, choiceValue, packedComparison}
+use Rattle.exports.specs.Unpacking.{codeIn, valueIn, ofFirst, numberOf, unpacked, countsIn, yesIn, choiceIn, whichOf, differenceIn, comparisonIn}
 use Rattle.exports.specs.NothingLost.{NothingLost}
 use Rattle.exports.proofs.Refusals.{Refuses, in-table}
 use Rattle.exports.proofs.BookRefusals.{checking, deciding, compiling}
@@ -32,27 +32,24 @@ module _ (code v : ℕ) (h : code < 32) where
   unfolding valueIn
   value-in = omega arith
 
-  number-in : numberIn (asOne code v) ≡ cond (ofFirst code) code (code - 16)
-  unfolding numberIn
-  number-in = rw code-in refl
-
   answer-in : {A : Type 0} (resultIn : ℕ → A)
-      → unpacked resultIn (asOne code v) ≡ cond (eqb code 0) (result (resultIn v)) (refused (cond (ofFirst code) code (code - 16)) v)
+      → unpacked resultIn (asOne code v) ≡ cond (eqb code 0) (result (resultIn v)) (refused (numberOf code) v)
   unfolding unpacked
-  answer-in resultIn = rw (number-in, code-in, value-in) refl
+  answer-in resultIn = rw (code-in, value-in) refl
 
   comparison-in : comparisonIn (asOne code v)
-      ≡ cond (eqb code 0) (differenceIn v) (declined (whichOf (ofFirst code)) (cond (ofFirst code) code (code - 16)) v)
+      ≡ cond (eqb code 0) (differenceIn v) (declined (whichOf (ofFirst code)) (numberOf code) v)
   unfolding comparisonIn
-  comparison-in = rw (number-in, code-in, value-in) refl
+  comparison-in = rw (code-in, value-in) refl
 
-first-code : (code : ℕ) → code ≤ 20 → ofFirst code ≡ true
-unfolding ofFirst
-first-code code h = le-leb code 20 h
+-- which listing a code is of, and its number
+first-code : (code : ℕ) → code ≤ 20 → (ofFirst code ≡ true) × (numberOf code ≡ code)
+unfolding numberOf ofFirst
+first-code code h = let t = le-leb code 20 h in (t, rw t refl)
 
-second-code : (code : ℕ) → 20 < code → ofFirst code ≡ false
-unfolding ofFirst
-second-code code h = lt-leb code 20 h
+second-code : (number : ℕ) → 4 < number → (ofFirst (ofSecond number) ≡ false) × (numberOf (ofSecond number) ≡ number)
+unfolding numberOf ofFirst
+second-code number h = let t = lt-leb (number + 16) 20 (omega arith) in (t, rw t (omega arith))
 
 -- ---- an answer
 
@@ -63,7 +60,7 @@ module _ {A : Type 0} (valueOf : A → ℕ) (resultIn : ℕ → A) {from to most
   told-again (result x) h g = answer-in 0 (valueOf x) (omega arith) resultIn ∙ ap result (g x refl)
   told-again (refused n v) h g =
       let i = in-table h refl in
-      answer-in n v (omega arith) resultIn ∙ rw (ne-eqb n 0 (omega arith), first-code n (omega arith)) refl
+      answer-in n v (omega arith) resultIn ∙ rw (ne-eqb n 0 (omega arith), first-code n (omega arith) .1) refl
 
 counts-again : (n : Counts) → n .policies ≤ 16 → countsIn (countsValue n) ≡ n
 unfolding countsIn countsValue
@@ -103,10 +100,11 @@ module _ (one two : ℕ) where
   compared-again (differ set first) h = comparison-in 0 (3 + 2048 * set) (omega arith) ∙ difference-in 3 set (omega arith) (omega arith)
   compared-again (differ set second) h = comparison-in 0 (1 + 2048 * set) (omega arith) ∙ difference-in 1 set (omega arith) (omega arith)
   compared-again (declined first n v) h =
-      comparison-in n v (omega arith) ∙ rw (ne-eqb n 0 (omega arith), first-code n (omega arith)) refl
+      let (which, number) = first-code n (omega arith) in
+      comparison-in n v (omega arith) ∙ rw (ne-eqb n 0 (omega arith), which, number) refl
   compared-again (declined second n v) h =
-      let back : n + 16 - 16 ≡ n = omega arith in
-      comparison-in (n + 16) v (omega arith) ∙ rw (ne-eqb (n + 16) 0 (omega arith), second-code (n + 16) (omega arith), back) refl
+      let (which, number) = second-code n (omega arith) in
+      comparison-in (ofSecond n) v (omega arith) ∙ rw (ne-eqb (ofSecond n) 0 (omega arith), which, number) refl
 
 -- ---- every call
 

@@ -17,13 +17,13 @@ valueIn r = r / 32
 unfoldable pub ofFirst : ℕ → Bool
 ofFirst code = leb code 20
 
--- the refusal's number, or 0
-unfoldable pub numberIn : ℕ → ℕ
-numberIn r = cond (ofFirst (codeIn r)) (codeIn r) (codeIn r - 16)
+-- the refusal's number that a code stands for, or 0
+unfoldable pub numberOf : ℕ → ℕ
+numberOf code = cond (ofFirst code) code (code - 16)
 
 -- the answer, from the result that a value stands for
 unfoldable pub unpacked : {A : Type 0} → (ℕ → A) → ℕ → Answer A
-unpacked resultIn r = cond (eqb (codeIn r) 0) (result (resultIn (valueIn r))) (refused (numberIn r) (valueIn r))
+unpacked resultIn r = cond (eqb (codeIn r) 0) (result (resultIn (valueIn r))) (refused (numberOf (codeIn r)) (valueIn r))
 
 -- ---- the results that values stand for
 
@@ -44,4 +44,4 @@ unfoldable pub differenceIn : ℕ → Comparison
 differenceIn v = cond (eqb v 0) alike (differ (v / 2048) (whichOf (eqb (v % 2048) 3)))
 
 unfoldable pub comparisonIn : ℕ → Comparison
-comparisonIn r = cond (eqb (codeIn r) 0) (differenceIn (valueIn r)) (declined (whichOf (ofFirst (codeIn r))) (numberIn r) (valueIn r))
+comparisonIn r = cond (eqb (codeIn r) 0) (differenceIn (valueIn r)) (declined (whichOf (ofFirst (codeIn r))) (numberOf (codeIn r)) (valueIn r))

@@ -13,9 +13,10 @@ ghost use Rattle.score.specs.Decisions.{scoredAnswer};
 ghost use Rattle.compiler.specs.Compiling.{compiled, returned, lentAfter};
 ghost use Rattle.exports.specs.Packing.{asOne, packed, countsValue, itself, choiceValue, packedComparison};
 
-// In a value: what stands from bit 16 of the number on, and from bit 32 on.
+// In a value: the weight of what stands from bit 16 of the number on.
 const FROM_BIT_16: u64 = 2048;
 
+// The same from bit 32 on.
 const FROM_BIT_32: u64 = 134217728;
 
 // By so much the code of a refusal is higher where it is the second listing's.
