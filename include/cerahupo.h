@@ -3,9 +3,12 @@
  * Link libexports.a, which `rt staticlib exports` writes for x86-64 Linux. It uses memcpy and memset of the C library and
  * nothing else, keeps no state and allocates nothing, so calls may run side by side.
  *
- * A book is bytes, a listing is 32-bit words, four a record; docs/OFFICE.md and docs/LISTING.md say what both mean. Each is
- * handed over as a pointer and a number of elements; with 0 elements the pointer may be anything, NULL too. Every content has an
- * answer: none has to be checked before a call. Nothing is written but the words lent to cerahupo_compile.
+ * A book is bytes, a listing is 32-bit words, four a record; docs/OFFICE.md and docs/LISTING.md say what both mean. An excluded
+ * pair is two signals that never occur together, as a line `x A B` of the book says; listings carry it as a record of kind 5.
+ *
+ * Books and listings are handed over as a pointer and a number of elements; with 0 elements the pointer may be anything, NULL
+ * too. Every content has an answer: none has to be checked before a call. Nothing is written but the words lent to
+ * cerahupo_compile.
  *
  * A call returns one number, which tells its whole answer:
  *
@@ -28,28 +31,30 @@ extern "C" {
 
 /* ---- the calls */
 
-/* The check of a book. Result: how many policies and conditions it has. Refusals: 1 to 6 with the line, which counts from 1
- * and is 0 for the whole book. */
+/* The check of a book. Result: how many policies and conditions it has (excluded pairs are not counted). Refusals: 1 to 6 with
+ * the line, which counts from 1 and is 0 for the whole book. */
 uint64_t cerahupo_check(const uint8_t *book, size_t book_length);
 
-/* The scored decision, for loggers: a condition of the book, counted from 0, on a signal set (signal S is bit S). Result: yes
- * or no. Refusals: those of the book, then 7. */
+/* The scored decision, for loggers: a condition of the book, counted from 0, on a signal set (signal S is bit S). Every set is
+ * decided, one with an excluded pair too. Result: yes or no. Refusals: those of the book, then 7. */
 uint64_t cerahupo_decide(const uint8_t *book, size_t book_length, uint32_t condition, uint16_t set);
 
-/* Compiling a condition of the book into the lent words, which the book must not overlap. Result: the number of records; the
- * first four words for each are the listing, and the words beyond them are not written. Refusals: those of the book, then 7,
- * then 8; on a refusal no word is written. */
+/* Compiling a condition of the book into the lent words, which the book must not overlap. Result: the number of records, those
+ * of the book's excluded pairs among them; the first four words for each are the listing, and the words beyond them are not
+ * written. Refusals: those of the book, then 7, then 8; on a refusal no word is written. */
 uint64_t cerahupo_compile(const uint8_t *book, size_t book_length, uint32_t condition, uint32_t *words, size_t words_length);
 
-/* The rod's reading of a listing on a signal set. Result: yes or no. Refusals: 9, or 10 with the record, which counts from 1. */
+/* The rod's reading of a listing on a signal set; excluded pairs change no answer. Result: yes or no. Refusals: 9, or 10 with
+ * the record, which counts from 1. */
 uint64_t cerahupo_read(const uint32_t *words, size_t words_length, uint16_t set);
 
-/* The choice check of a listing over all 65,536 signal sets. Result: always, never or both; for both also the lowest yes set and
- * the lowest no set. Refusals: those of cerahupo_read. */
+/* The choice check of a listing over all signal sets that hold no excluded pair of it (without such pairs all 65,536). Result:
+ * always, never or both; for both also the lowest yes set and the lowest no set. Refusals: those of cerahupo_read. */
 uint64_t cerahupo_choice(const uint32_t *words, size_t words_length);
 
-/* The comparison of two listings, which may overlap, over all 65,536 signal sets. Result: alike, or the lowest set where they
- * differ and which says yes there. Refusals: those of cerahupo_read, of the first listing, then of the second. */
+/* The comparison of two listings, which may overlap, over all signal sets that hold no excluded pair of either. Result: alike,
+ * or the lowest set where they differ and which says yes there. Refusals: those of cerahupo_read, of the first listing, then of
+ * the second. */
 uint64_t cerahupo_compare(const uint32_t *one, size_t one_length, const uint32_t *two, size_t two_length);
 
 /* ---- the number taken apart */

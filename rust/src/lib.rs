@@ -3,6 +3,9 @@
 //! Nothing is refused here. Each slice is handed on whatever it holds, and what the call told is returned.
 //! "Document 01" is the office's scope paper; a signal set is a 16-bit number, signal S its bit S.
 //!
+//! An excluded pair is two signals that never occur together, as a book's line `x A B` says; a listing carries it as a
+//! record of kind 5.
+//!
 //! ```
 //! let book = b"p sum 0\nr 0 40\nr 1 30\nr 2 30\nc 50 < p0\n";
 //! let mut words = [0; 64];
@@ -38,7 +41,8 @@ pub enum Decision {
     No,
 }
 
-/// What a listing says over all signal sets; the sets named are the lowest that give yes and no.
+/// What a listing says over all signal sets that hold no excluded pair of it; the sets named are the lowest that give
+/// yes and no.
 #[derive(Clone, Copy, Debug, PartialEq, Eq)]
 pub enum Choice {
     Always,
@@ -53,7 +57,8 @@ pub enum Listing {
     Second,
 }
 
-/// Whether two listings say the same of every signal set, or the lowest where they differ and which says yes there.
+/// Whether two listings say the same of every signal set that holds no excluded pair of either, or the lowest such set
+/// where they differ and which says yes there.
 #[derive(Clone, Copy, Debug, PartialEq, Eq)]
 pub enum Comparison {
     Alike,
@@ -72,28 +77,28 @@ pub fn check(book: &[u8]) -> Result<Counts, Refusal> {
     raw::check(book).result().map(Counts::told)
 }
 
-/// The scored decision of a book's condition, counted from 0.
+/// The scored decision of a book's condition, counted from 0; a set that holds an excluded pair is decided too.
 pub fn decide(book: &[u8], condition: u32, set: u16) -> Result<Decision, Refusal> {
     raw::decide(book, condition, set).result().map(Decision::told)
 }
 
-/// Compiles a condition into the lent words and returns the number of records, four words each.
-/// Words beyond them, and on a refusal all words, are unchanged.
+/// Compiles a condition into the lent words and returns the number of records, those of the book's excluded pairs among
+/// them, four words each. Words beyond the records, and on a refusal all words, are unchanged.
 pub fn compile(book: &[u8], condition: u32, words: &mut [u32]) -> Result<u64, Refusal> {
     raw::compile(book, condition, words).result()
 }
 
-/// The rod's reading of a listing.
+/// The rod's reading of a listing; excluded pairs change no answer.
 pub fn read(words: &[u32], set: u16) -> Result<Decision, Refusal> {
     raw::read(words, set).result().map(Decision::told)
 }
 
-/// The choice check of a listing.
+/// The choice check of a listing, over all signal sets that hold no excluded pair of it.
 pub fn choice(words: &[u32]) -> Result<Choice, Refusal> {
     raw::choice(words).result().map(Choice::told)
 }
 
-/// Compares two listings.
+/// Compares two listings over all signal sets that hold no excluded pair of either.
 pub fn compare(one: &[u32], two: &[u32]) -> Result<Comparison, Declined> {
     let told = raw::compare(one, two);
     match told.result() {

@@ -20,4 +20,4 @@ scored-result bytes number set b c e = ap (λ (a : Answer (Book × Condition)). 
 pub book-agreement : BookAgreement
 book-agreement bytes number set b c e =
     let (range, conditionRange) = asked-in-range bytes number b c e in
-    condition-agreement b c set (range .policies) (conditionRange .mentionsRoom) ∙ sym (scored-result bytes number set b c e)
+    condition-agreement b c set range (conditionRange .mentionsRoom) ∙ sym (scored-result bytes number set b c e)

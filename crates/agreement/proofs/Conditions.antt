@@ -1,7 +1,7 @@
 -- The rod's answer on a condition's listing is the decision: min and max of scores become and and or of answers.
 use Prim.Native.Nat.{ℕ, _+_, _≤_}
 use mathlib.Core.Bool.{Bool}
-use mathlib.Core.List.{List}
+use mathlib.Core.List.{List, map}
 use mathlib.Core.Path.{_≡_, refl, sym, ap, ap₂, _∙_}
 use native.Mathlib.Omega.{arith}
 use lib.IntN.{ℤ}
@@ -15,7 +15,7 @@ use Rattle.rod.specs.Reading.{policyValue, joined}
 use Rattle.rod.proofs.Trees.{rod-tree}
 use Rattle.peal.specs.Policies.{Policy, MinMax, smaller, larger, Expression, Condition, Book, emptyPolicy, policyAt}
 use Rattle.peal.specs.Score.{scaled, ofTwo, score, meets, decision}
-use Rattle.peal.specs.Translation.{joinOf, listed, translated, listingRecords}
+use Rattle.peal.specs.Translation.{joinOf, listed, translated, pairMask, listingRecords}
 use Rattle.peal.specs.declared.Sense.{Sense}
 use Rattle.peal.specs.declared.Sense.the-variants.{Above, AtMost}
 use Rattle.peal.proofs.MaskLaws.{listed-fits}
@@ -24,6 +24,7 @@ use Rattle.book.specs.Acceptance.{within}
 use Rattle.book.specs.Ranges.{PolicyInRange, mentionCount}
 use Rattle.agreement.specs.ConditionAgreement.{ConditionAgreement}
 use Rattle.agreement.proofs.Policies.{signals-fit, policy-agreement}
+use Rattle.agreement.proofs.Pairs.{pairs-fit}
 
 -- the smaller or larger of two scores meets the condition where the join of the two answers says so
 meets-two : (s : Sense) (t : ℤ) (m : MinMax) (a b : ℤ) → meets s t (ofTwo m a b) ≡ joined (joinOf s m) (meets s t a) (meets s t b)
@@ -76,6 +77,6 @@ module _ (b : Book) (c : Condition) where
 
 pub condition-agreement : ConditionAgreement
 unfolding listingRecords translated decision
-condition-agreement b c set ranges room =
-    rod-tree (translated (b .policies) c) set (condition-fits b c ranges) (condition-policies b c room)
-    ∙ ap (λ (a : Bool). result a) (tree-agrees (b .policies) (c .sense) (c .threshold) ranges set (c .expression))
+condition-agreement b c set range room =
+    rod-tree (map pairMask (b .exclusions)) (translated (b .policies) c) set (pairs-fit b range) (condition-fits b c (range .policies)) (condition-policies b c room)
+    ∙ ap (λ (a : Bool). result a) (tree-agrees (b .policies) (c .sense) (c .threshold) (range .policies) set (c .expression))

@@ -1,7 +1,7 @@
 -- Demand 3: rod and logger say the same of a compiled condition, and its listing has the minimal sets, each once.
 use Prim.Native.Nat.{ℕ}
 use mathlib.Core.Bool.{Bool}
-use mathlib.Core.List.{List, _++_, Forall₂, Forall₂·nil, Forall₂·cons}
+use mathlib.Core.List.{List, _++_, map, Forall₂, Forall₂·nil, Forall₂·cons}
 use mathlib.Core.Path.{_≡_, refl, sym, ap, subst, _∙_}
 use lib.ListN.{length}
 use borrow.Author.Tests.{le-leb}
@@ -11,16 +11,16 @@ use Rattle.arith.specs.Lists.{Each}
 use Rattle.arith.specs.Trees.{leaf, join, postfix, mapTree}
 use Rattle.arith.proofs.Tests.{clash}
 use Rattle.layout.specs.Records.{words, records}
-use Rattle.layout.specs.Nodes.{nodes}
-use Rattle.layout.proofs.Soundness.{nodes-listing}
+use Rattle.layout.specs.Nodes.{nodes, excluded}
+use Rattle.layout.proofs.Soundness.{nodes-listing, excluded-listing}
 use Rattle.rod.specs.Reading.{rodAnswer}
 use Rattle.rod.specs.Meaning.{rodMeaning}
 use Rattle.rod.specs.declared.Decision.{Decision as RodDecision}
 use Rattle.rod.specs.declared.Decision.the-variants.{Yes as RodYes, No as RodNo, Declined}
 use Rattle.peal.specs.Policies.{Policy, Expression, Condition, policyAt}
 use Rattle.peal.specs.Score.{decision}
-use Rattle.peal.specs.Translation.{listed, translated, listingRecords}
-use Rattle.book.specs.Books.{read, conditionAt, asked}
+use Rattle.peal.specs.Translation.{listed, translated, pairMask, listingRecords}
+use Rattle.book.specs.Books.{read, asked}
 use Rattle.book.specs.Ranges.{PolicyInRange}
 use Rattle.book.proofs.AskedLaws.{asked-in-range}
 use Rattle.score.specs.Meaning.{scoreMeaning}
@@ -89,11 +89,14 @@ unfolding listingRecords translated
 minimal-listing bytes number lent n e =
     let x = compiled-from bytes number lent n e in
     let range = asked-in-range bytes number (x .book) (x .condition) (x .ofBook) .0 in
-    let read = ap (λ (ws : List ℕ). nodes (records ws)) (x .listing) ∙ nodes-listing (postfix (translated (x .book .policies) (x .condition))) in
+    let pairs = map pairMask (x .book .exclusions) in
+    let all = postfix (translated (x .book .policies) (x .condition)) in
+    let read = ap (λ (ws : List ℕ). nodes (records ws)) (x .listing) ∙ nodes-listing pairs all in
     record {
       book = x .book;
       condition = x .condition;
       ofBook = x .ofBook;
+      pairs = ap (λ (ws : List ℕ). excluded (records ws)) (x .listing) ∙ excluded-listing pairs all;
       oneByOne =
           subst (Forall₂ (StandsFor (x .book .policies) (x .condition)) (postfix (x .condition .expression))) (sym read)
           (stand-for (x .book .policies) (range .policies) (x .condition) (x .condition .expression));

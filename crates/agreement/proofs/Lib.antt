@@ -1,4 +1,5 @@
 pub mod Policies
+pub mod Pairs
 pub mod Conditions
 pub mod Words
 pub mod Books

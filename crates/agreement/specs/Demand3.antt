@@ -1,7 +1,7 @@
 -- Claimed: demand 3, of the calls as they run. Proved in proofs/Demand3.antt.
 use Prim.Native.Nat.{ℕ, _≤_}
 use mathlib.Core.Bool.{Bool}
-use mathlib.Core.List.{List, Forall₂}
+use mathlib.Core.List.{List, map, Forall₂}
 use mathlib.Core.Logic.{_↔_}
 use mathlib.Core.Path.{_≡_}
 use lib.IntN.{ℤ}
@@ -9,7 +9,7 @@ use lib.ListN.{length}
 use Rattle.arith.specs.Trees.{Node, value, joining, postfix}
 use Rattle.answers.specs.Answers.{result, onResult}
 use Rattle.layout.specs.Records.{words, records}
-use Rattle.layout.specs.Nodes.{ListedNode, nodes}
+use Rattle.layout.specs.Nodes.{ListedNode, nodes, excluded}
 use Rattle.rod.specs.Reading.{rodAnswer}
 use Rattle.rod.specs.Meaning.{rodMeaning}
 use Rattle.rod.specs.declared.Decision.{Decision as RodDecision}
@@ -17,7 +17,7 @@ use Rattle.rod.specs.declared.Decision.the-variants.{Yes as RodYes, No as RodNo
 use Rattle.peal.specs.Policies.{Rule, Policy, MinMax, Condition, Book, policyAt}
 use Rattle.peal.specs.SetsOfRules.{SetInside, IsMinimal, Among, InOrder}
 use Rattle.peal.specs.Having.{has}
-use Rattle.peal.specs.Translation.{maskOf, joinOf, listingRecords}
+use Rattle.peal.specs.Translation.{maskOf, joinOf, pairMask, listingRecords}
 use Rattle.book.specs.Books.{read, conditionAt, asked}
 use Rattle.score.specs.Decisions.{scoredAnswer}
 use Rattle.score.specs.Meaning.{scoreMeaning}
@@ -82,6 +82,8 @@ pub record MinimalListing (bytes : List ℕ) (number : ℕ) (listing : List ℕ)
   pub book : Book
   pub condition : Condition
   pub ofBook : asked bytes number ≡ result (book, condition)
+  -- the pairs that it begins with are the book's exclusions in book order
+  pub pairs : excluded (records listing) ≡ map pairMask (book .exclusions)
   pub oneByOne : Forall₂ (StandsFor (book .policies) condition) (postfix (condition .expression)) (nodes (records listing))
 
 -- ---- the demand

@@ -1,7 +1,11 @@
 -- Laws of tests over lists: that any member passes, and that every member does.
+use Prim.Native.Nat.{ℕ, _+_, _≤_, _<_}
 use mathlib.Core.Bool.{Bool, true, false, not, cond, _&&_, _||_, or-assoc, and-true}
 use mathlib.Core.List.{List, [], _∷_, _++_, map, List·Memᴰ, List·Memᴰ·head, List·Memᴰ·tail}
 use mathlib.Core.Path.{_≡_, refl, sym, ap, ap₂, _∙_}
+use native.Mathlib.Numerals.{add-one}
+use lib.ListN.{length, getD, drop, drop-of-length-le}
+use lib.Seq.{drop-cons}
 use Rattle.arith.specs.Lists.{every, any, keep}
 use Rattle.arith.proofs.Tests.{clash, and-swap, or-right}
 
@@ -28,6 +32,21 @@ module _ {A : Type 0} (test : A → Bool) where
   pub any-append : (xs ys : List A) → any test (xs ++ ys) ≡ (any test xs || any test ys)
   any-append [] ys = refl
   any-append (x ∷ xs) ys = rw (any-append xs ys) (sym (or-assoc (test x) (any test xs) (any test ys)))
+
+  -- from index i on
+  module _ (xs : List A) (i : ℕ) where
+    module _ (z : A) (h : i < length xs) where
+      any-from : any test (drop i xs) ≡ (test (getD xs i z) || any test (drop (i + 1) xs))
+      any-from = rw (drop-cons xs i z h, add-one i)
+
+      pub any-here : test (getD xs i z) ≡ true → true ≡ any test (drop i xs)
+      any-here e = sym (any-from ∙ ap (λ (t : Bool). t || any test (drop (i + 1) xs)) e)
+
+      pub any-later : test (getD xs i z) ≡ false → any test (drop (i + 1) xs) ≡ any test (drop i xs)
+      any-later e = sym (any-from ∙ ap (λ (t : Bool). t || any test (drop (i + 1) xs)) e)
+
+    pub any-left : length xs ≤ i → false ≡ any test (drop i xs)
+    any-left h = rw (drop-of-length-le xs {i = i} h)
 
   -- another test that says the same of each member
   pub any-same : (other : A → Bool) (xs : List A) → ((x : A) → List·Memᴰ x xs → test x ≡ other x) → any test xs ≡ any other xs

@@ -3,12 +3,12 @@ use Prim.Native.Nat.{ℕ, zero, suc, _≤_, _<_}
 use mathlib.Core.Bool.{Bool, true, false, not, _&&_, _||_, and-true, and-self}
 use mathlib.Core.List.{List, [], _∷_}
 use mathlib.Core.Logic.{⊎-elim}
-use mathlib.Core.Path.{_≡_, refl, sym, ap, ap₂, _∙_}
+use mathlib.Core.Path.{_≡_, refl, sym, ap, ap₂, subst, _∙_}
 use native.Mathlib.Omega.{arith}
 use lib.Dec.{eqb}
 use borrow.Author.Tests.{eq-eqb, ne-eqb}
 use Rattle.arith.specs.Lists.{every, any, below, isIn, AllBelow}
-use Rattle.arith.proofs.Tests.{not-and}
+use Rattle.arith.proofs.Tests.{not-and, and-left, and-right}
 use Rattle.arith.proofs.AnyEvery.{every-all, every-same, every-and, any-not-every}
 use Rattle.arith.proofs.Order.{le-or-lt}
 
@@ -50,3 +50,12 @@ any-listed p n l h =
     any-not-every (λ i. isIn i l && p i) (below n)
     ∙ ap not (every-same (λ i. not (isIn i l && p i)) (λ i. not (isIn i l) || not (p i)) (below n) (λ i. not-and (isIn i l) (p i)) ∙ every-listed (λ i. not (p i)) n l h)
     ∙ sym (any-not-every p l)
+
+-- a test that every number below n passes
+pub every-below : (p : ℕ → Bool) (n : ℕ) → every p (below n) ≡ true → (i : ℕ) → i < n → p i ≡ true
+every-below p zero e i h = absurd (omega arith)
+every-below p (suc n) e i h =
+    ⊎-elim
+    (λ (l : n ≤ i). let same : n ≡ i = omega arith in subst (λ (k : ℕ). p k ≡ true) same (and-left (p n) (every p (below n)) e))
+    (λ (l : i < n). every-below p n (and-right (p n) (every p (below n)) e) i l)
+    (le-or-lt n i)

@@ -1,8 +1,10 @@
 -- Laws of tests: Boolean answers, and tests over lists.
-use Prim.Native.Nat.{ℕ, zero, suc}
+use Prim.Native.Nat.{ℕ, zero, suc, _≤_}
 use mathlib.Core.Bool.{Bool, true, false, not, _&&_, _||_, true≢false}
 use mathlib.Core.Logic.{_⊎_, inl, inr}
 use mathlib.Core.Path.{_≡_, refl, sym, ap, _∙_}
+use native.Mathlib.Omega.{arith}
+use mir.Val.{boolByte}
 use Rattle.arith.specs.Lists.{every, any, below}
 
 -- an answer is not both
@@ -78,3 +80,8 @@ pub any-low : (n : ℕ) (test : ℕ → Bool) → any test (below (suc n)) ≡ (
 any-low zero test = refl
 any-low (suc n) test =
     ap (λ (b : Bool). test (suc n) || b) (any-low n test) ∙ or-swap (test (suc n)) (test zero) (any (λ s. test (suc s)) (below n))
+
+-- an answer as a number is at most 1
+pub byte-small : (b : Bool) → boolByte b ≤ 1
+byte-small true = omega arith
+byte-small false = omega arith

@@ -16,15 +16,15 @@ use Rattle.arith.specs.Lists.{padded}
 use Rattle.arith.proofs.Each.{each-get}
 use Rattle.arith.proofs.Padding.{padded-more}
 use Rattle.signals.proofs.SetOfLaws.{set-below}
-use Rattle.peal.specs.Policies.{Rule, Policy, Condition, noRule, policyAt}
+use Rattle.peal.specs.Policies.{Rule, Policy, Exclusion, Condition, Book, noRule, noExclusion, policyAt}
 use Rattle.peal.specs.Translation.{maskOf}
 use Rattle.peal.specs.declared.Operator.{Operator}
 use Rattle.peal.specs.declared.Operator.the-variants.{Min, Max, Sum, Mul}
 use Rattle.peal.specs.declared.Sense.{Sense}
 use Rattle.peal.specs.declared.Sense.the-variants.{Above, AtMost}
 use Rattle.book.specs.Codes.{codesOf}
-use Rattle.book.specs.Cells.{PolicyCells, ConditionCells, operatorCode, senseCode}
-use Rattle.book.specs.Ranges.{signalsOf, PolicyInRange, ConditionInRange, PolicyKept, ConditionKept}
+use Rattle.book.specs.Cells.{PolicyCells, ExclusionCells, ConditionCells, BookCells, operatorCode, senseCode}
+use Rattle.book.specs.Ranges.{signalsOf, PolicyInRange, ExclusionInRange, ConditionInRange, BookInRange, PolicyKept, ExclusionsKept, ConditionKept}
 use Rattle.book.proofs.CodeLaws.{mention-below}
 use Rattle.book.proofs.ConditionLaws.{condition-within, each-condition}
 use Rattle.book.proofs.MentionLaws.{codes-count}
@@ -114,6 +114,20 @@ rule-more {A = A} {x = x} z f rules i q h r e =
     (ap (λ (y : A). xs ++ (y ∷ [])) e ∙ sym (map-append f (take i rules) (getD rules i noRule ∷ []))
     ∙ ap (map f) (sym (take-suc rules i noRule h) ∙ ap (λ (j : ℕ). take j rules) (sym (add-one i))))
 
+-- ---- the exclusions
+
+-- those of a book in range
+abbrev pub book-exclusions : {cells : List ℤ} {b : Book} → BookCells cells b → BookInRange b → ExclusionsKept cells
+book-exclusions {b = b} held range = record { exclusions = b .exclusions; held = held .exclusions; room = range .exclusionsRoom; range = range .exclusions }
+
+-- exclusion i of some that are kept
+pub kept-exclusion : {cells : List ℤ} (h : ExclusionsKept cells) (i : ℕ) → i < length (h .exclusions) → ExclusionInRange (getD (h .exclusions) i noExclusion)
+kept-exclusion h i l = each-get ExclusionInRange (h .exclusions) i noExclusion (h .range) l
+
+-- two lists of exclusions of the same cells are as long
+pub same-exclusions : {cells : List ℤ} {xs ys : List Exclusion} → ExclusionCells cells xs → ExclusionCells cells ys → length xs ≡ length ys
+same-exclusions a b = pos-same (sym (a .count) ∙ b .count)
+
 -- ---- a condition
 
 module _ {cells : List ℤ} {k : ℕ} (h : ConditionKept cells k) where
@@ -125,6 +139,9 @@ module _ {cells : List ℤ} {k : ℕ} (h : ConditionKept cells k) where
 
   pub condition-range : ConditionInRange (length (h .book .policies)) (h .condition)
   condition-range = each-condition (ConditionInRange (length (h .book .policies))) (h .book .conditions) k (h .condition) (h .range .conditions) (h .asked)
+
+  pub exclusions-kept : ExclusionsKept cells
+  exclusions-kept = book-exclusions (h .held) (h .range)
 
   pub codes-few : length (codesOf (h .condition .expression)) ≤ 31
   codes-few = omega (arith, codes-count (h .condition .expression), condition-range .mentionsRoom)

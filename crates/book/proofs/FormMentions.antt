@@ -13,7 +13,7 @@ use Rattle.peal.specs.declared.Sense.{Sense}
 use Rattle.book.specs.Text.{bytes, longer, parted, fields, is}
 use Rattle.book.specs.Numbers.{natural, number}
 use Rattle.book.specs.Expressions.{expression}
-use Rattle.book.specs.Forms.{Form, policy, rule, condition, operator, sense, barePolicy, fullPolicy, ruleLine, conditionLine, formOf, form}
+use Rattle.book.specs.Forms.{Form, policy, rule, exclusion, condition, operator, sense, barePolicy, fullPolicy, ruleLine, exclusionLine, conditionLine, formOf, form}
 use Rattle.book.specs.Ranges.{mentionCount}
 use Rattle.book.proofs.LineLaws.{number-length, sense-length}
 use Rattle.book.proofs.MentionLaws.{expression-fits}
@@ -42,6 +42,7 @@ parted-span x (b ∷ s) = go (eqb b x) (parted-span x s)
 abbrev pub FewMentions : Form → Type 0
 FewMentions (policy o d) = Unit {0}
 FewMentions (rule s v) = Unit {0}
+FewMentions (exclusion a b) = Unit {0}
 FewMentions (condition c t e) = mentionCount e ≤ 16
 
 condition-fits : (t c e : List ℕ) → length t + length c + length e ≤ 124 → Finds FewMentions (conditionLine t c e)
@@ -64,13 +65,18 @@ rule-fits : (s v : List ℕ) → Finds FewMentions (ruleLine s v)
 unfolding ruleLine
 rule-fits s v = finds-any FewMentions (natural s) _ (λ n. finds-any FewMentions (number v) _ (λ z. tt))
 
+exclusion-fits : (a b : List ℕ) → Finds FewMentions (exclusionLine a b)
+unfolding exclusionLine
+exclusion-fits a b = finds-any FewMentions (natural a) _ (λ m. finds-any FewMentions (natural b) _ (λ n. tt))
+
 fields-fit : (fs : List (List ℕ)) → span fs ≤ 129 → Finds FewMentions (formOf fs)
 unfolding span formOf
 fields-fit [] h = tt
 fields-fit (k ∷ []) h = tt
 fields-fit (k ∷ a ∷ []) h = finds-if FewMentions (is (bytes "p") k) (barePolicy a) (λ e. bare-fits a)
 fields-fit (k ∷ a ∷ b ∷ []) h =
-    finds-either FewMentions (is (bytes "p") k) (fullPolicy a b) _ (full-fits a b) (finds-if FewMentions (is (bytes "r") k) (ruleLine a b) (λ e. rule-fits a b))
+    finds-either FewMentions (is (bytes "p") k) (fullPolicy a b) _ (full-fits a b)
+    (finds-either FewMentions (is (bytes "r") k) (ruleLine a b) _ (rule-fits a b) (finds-if FewMentions (is (bytes "x") k) (exclusionLine a b) (λ e. exclusion-fits a b)))
 fields-fit (k ∷ a ∷ b ∷ e ∷ []) h = finds-if FewMentions (is (bytes "c") k) (conditionLine a b e) (λ q. condition-fits a b e (omega (arith, is-length (bytes "c") k q)))
 fields-fit (k ∷ a ∷ b ∷ e ∷ f ∷ fs) h = tt
 

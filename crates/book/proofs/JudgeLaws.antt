@@ -1,9 +1,9 @@
 -- Laws of accepting a line: the tests 3 to 6 in their order, and what the code's loops and tests say of them.
 use Prim.Native.Nat.{ℕ, _+_, _≤_, _<_}
-use mathlib.Core.Bool.{Bool, true, false, not, _&&_}
+use mathlib.Core.Bool.{Bool, true, false, not, _&&_, _||_}
 use mathlib.Core.List.{List, [], _∷_}
 use mathlib.Core.Option.{Option}
-use mathlib.Core.Path.{_≡_, refl, sym, ap, _∙_}
+use mathlib.Core.Path.{_≡_, refl, sym, ap, ap₂, _∙_}
 use native.Mathlib.Numerals.{add-one}
 use native.Mathlib.Omega.{arith}
 use lib.Dec.{ltb, eqb}
@@ -12,17 +12,17 @@ use lib.ListN.{length, getD, take, drop, drop-of-length-le}
 use lib.Seq.{drop-cons, getD-take}
 use borrow.Author.Tests.{eq-eqb, ne-eqb, lt-ltb, le-ltb}
 use Rattle.answers.specs.Answers.{result, refused}
-use Rattle.arith.specs.Lists.{every, Distinct}
+use Rattle.arith.specs.Lists.{any, every, Distinct}
 use Rattle.arith.proofs.AnyEvery.{any-map}
 use Rattle.signals.specs.Sets.{present}
 use Rattle.signals.proofs.SetOfLaws.{present-set}
-use Rattle.peal.specs.Policies.{Rule, Expression}
+use Rattle.peal.specs.Policies.{Rule, Expression, Exclusion}
 use Rattle.peal.specs.Translation.{maskOf}
 use Rattle.peal.specs.declared.Operator.{Operator}
 use Rattle.peal.specs.declared.Sense.{Sense}
-use Rattle.limits.specs.Limits.{roomForPolicy, roomForCondition, signalInRange, thresholdInRange}
-use Rattle.book.specs.Forms.{Form, policy, rule, condition}
-use Rattle.book.specs.Acceptance.{BookSoFar, lastPolicy, inPlace, inCount, roomForRule, defaultInRange, scoreInRange, mentionsBelow, inRange, isNew, accept}
+use Rattle.limits.specs.Limits.{roomForPolicy, roomForCondition, roomForExclusion, signalInRange, exclusionInRange, thresholdInRange}
+use Rattle.book.specs.Forms.{Form, policy, rule, exclusion, condition}
+use Rattle.book.specs.Acceptance.{BookSoFar, lastPolicy, noCondition, inPlace, inCount, roomForRule, defaultInRange, scoreInRange, mentionsBelow, inRange, excludes, isNew, accept}
 use Rattle.book.specs.Ranges.{signalsOf}
 use Rattle.book.specs.Codes.{HoldsCodes}
 use Rattle.book.specs.Judged.{after}
@@ -56,16 +56,25 @@ module _ (n : ℕ) (so : BookSoFar) (f : Form) where
 pub not-fine : {X : Type 0} {r : Reason} → Refused r ≡ Fine → X
 not-fine h = let z : _≡_ {A = ℕ} 0 1 = cc in absurd (omega arith)
 
+-- ---- before the first condition
+
+module _ (so : BookSoFar) (n : ℕ) (e : n ≡ length (so .book .conditions)) where
+  no-condition : n ≤ 0 → noCondition so ≡ true
+  no-condition h = eq-eqb (length (so .book .conditions)) 0 (omega arith)
+
+  some-condition : 0 < n → noCondition so ≡ false
+  some-condition h = ne-eqb (length (so .book .conditions)) 0 (λ q. omega arith)
+
 -- ---- a policy
 
 module _ (so : BookSoFar) (o : Operator) (d : Option ℤ) where
   pub policy-placed : (a : ℕ) → a ≡ length (so .book .conditions) → a ≤ 0 → inPlace so (policy o d) ≡ true
   unfolding inPlace
-  policy-placed a e h = eq-eqb (length (so .book .conditions)) 0 (omega arith)
+  policy-placed a e h = no-condition so a e h
 
   pub policy-misplaced : (a : ℕ) → a ≡ length (so .book .conditions) → 0 < a → inPlace so (policy o d) ≡ false
   unfolding inPlace
-  policy-misplaced a e h = ne-eqb (length (so .book .conditions)) 0 (λ q. omega arith)
+  policy-misplaced a e h = some-condition so a e h
 
   pub policy-counted : (a : ℕ) → a ≡ length (so .book .policies) → (b : Bool) → roomForPolicy a ≡ b → inCount so (policy o d) ≡ b
   unfolding inCount
@@ -111,6 +120,29 @@ module _ (so : BookSoFar) (s : ℕ) (v : ℤ) where
       (sym (any-map (λ (r : Rule). r .signal) (λ y. eqb y s) rules)
       ∙ sym (present-set (signalsOf rules) d s) ∙ ap (λ (m : ℕ). present m s) (sym e) ∙ sym f ∙ h)
 
+-- ---- an exclusion
+
+module _ (so : BookSoFar) (a b : ℕ) where
+  pub exclusion-placed : (n : ℕ) → n ≡ length (so .book .conditions) → n ≤ 0 → inPlace so (exclusion a b) ≡ true
+  unfolding inPlace
+  exclusion-placed n e h = no-condition so n e h
+
+  pub exclusion-misplaced : (n : ℕ) → n ≡ length (so .book .conditions) → 0 < n → inPlace so (exclusion a b) ≡ false
+  unfolding inPlace
+  exclusion-misplaced n e h = some-condition so n e h
+
+  pub exclusion-counted : (n : ℕ) → n ≡ length (so .book .exclusions) → (t : Bool) → roomForExclusion n ≡ t → inCount so (exclusion a b) ≡ t
+  unfolding inCount
+  exclusion-counted n e t h = ap roomForExclusion (sym e) ∙ h
+
+  pub exclusion-range : (t : Bool) → exclusionInRange a b ≡ t → inRange so (exclusion a b) ≡ t
+  unfolding inRange
+  exclusion-range t h = h
+
+  pub exclusion-new : (t c : Bool) → t ≡ any (excludes a b) (so .book .exclusions) → t ≡ c → isNew so (exclusion a b) ≡ not c
+  unfolding isNew
+  exclusion-new t c e h = ap not (sym e ∙ h)
+
 -- ---- a condition
 
 module _ (so : BookSoFar) (c : Sense) (t : ℤ) (e : Expression) where
@@ -155,3 +187,15 @@ module _ (l : List ℕ) (n i : ℕ) (e : Expression) (held : HoldsCodes l n e) w
 
   pub all-end : (x : ℕ) → n ≤ i → true ≡ every (λ y. ltb y x) (drop i (take n l))
   all-end x h = rw (cells-end h)
+
+-- ---- the exclusions, one by one
+
+-- an exclusion of the signals f and s, by the code's two tests of them
+pub by-tests : {f s : ℕ} {p q : Bool} (a b : ℕ) (x : Exclusion) → f ≡ x .first → s ≡ x .second → p ≡ (eqb f a && eqb s b) → q ≡ (eqb f b && eqb s a) → excludes a b x ≡ (p || q)
+unfolding excludes
+by-tests a b x f-is s-is p-is q-is =
+    ap₂ (λ (u v : ℕ). (eqb u a && eqb v b) || (eqb u b && eqb v a)) (sym f-is) (sym s-is) ∙ ap₂ _||_ (sym p-is) (sym q-is)
+
+-- the first test alone, where it holds
+pub by-first-test : {f s : ℕ} {p : Bool} (a b : ℕ) (x : Exclusion) → f ≡ x .first → s ≡ x .second → p ≡ (eqb f a && eqb s b) → p ≡ true → excludes a b x ≡ true
+by-first-test {f} {s} a b x f-is s-is p-is h = by-tests a b x f-is s-is p-is refl ∙ ap (λ (t : Bool). t || (eqb f b && eqb s a)) h

@@ -1,6 +1,6 @@
 -- An accepted line keeps the book so far within bounds, so every book that is read is in range.
 use Prim.Native.Nat.{ℕ, _+_, _-_, _≤_, _<_}
-use mathlib.Core.Bool.{Bool, true, false, _&&_}
+use mathlib.Core.Bool.{Bool, true, false, not, _&&_}
 use mathlib.Core.List.{List, [], _∷_, _++_, map-append}
 use mathlib.Core.Option.{Option, none, some}
 use mathlib.Core.Path.{_≡_, refl, sym, subst, _∙_}
@@ -8,7 +8,7 @@ use native.Mathlib.Omega.{arith}
 use lib.Dec.{leb, eqb}
 use lib.IntN.{ℤ, pos, negℤ}
 use lib.ListN.{length, length-append, length-set, length-map}
-use borrow.Author.Tests.{leb-true, ltb-true, eqb-true, not-true}
+use borrow.Author.Tests.{leb-true, ltb-true, eqb-true, eqb-false, not-true}
 use Rattle.answers.specs.Answers.{result}
 use Rattle.answers.proofs.Results.{no-refusal, result-is, required, gone-on}
 use Rattle.arith.specs.Lists.{any, Each, AllBelow, Distinct}
@@ -17,14 +17,15 @@ use Rattle.arith.proofs.Distinct.{at-most, distinct-more}
 use Rattle.arith.proofs.Each.{each-none, each-get, each-more, each-set}
 use Rattle.arith.proofs.Options.{Finds}
 use Rattle.arith.proofs.Tests.{and-left, and-right, clash}
-use Rattle.peal.specs.Policies.{Rule, Policy, Condition, Book, policyAt}
+use Rattle.peal.specs.Policies.{Rule, Policy, Exclusion, Condition, Book, policyAt}
 use Rattle.peal.specs.declared.Operator.{Operator}
 use Rattle.peal.specs.declared.Operator.the-variants.{Mul}
+use Rattle.limits.specs.Limits.{exclusionInRange}
 use Rattle.book.specs.Text.{Line, textLines}
-use Rattle.book.specs.Forms.{Form, policy, rule, condition, form}
-use Rattle.book.specs.Acceptance.{BookSoFar, noLine, emptyBook, lastPolicy, inPlace, inCount, roomForRule, within, defaultInRange, scoreInRange, mentionsBelow, inRange, isNew, defaultOf, withRule, withPolicies, withLast, withCondition, bookWith, opensRules, accept}
+use Rattle.book.specs.Forms.{Form, policy, rule, exclusion, condition, form}
+use Rattle.book.specs.Acceptance.{BookSoFar, noLine, emptyBook, lastPolicy, inPlace, inCount, roomForRule, within, defaultInRange, scoreInRange, mentionsBelow, inRange, isNew, defaultOf, withRule, withPolicies, withLast, withExclusion, withCondition, bookWith, opensRules, accept}
 use Rattle.book.specs.Books.{acceptForm, readLine, readLines, read}
-use Rattle.book.specs.Ranges.{signalsOf, mentionCount, PolicyInRange, ConditionInRange, BookInRange}
+use Rattle.book.specs.Ranges.{signalsOf, mentionCount, PolicyInRange, ExclusionInRange, ConditionInRange, BookInRange}
 use Rattle.book.specs.Judged.{after}
 use Rattle.book.specs.Taken.{Bounded}
 use Rattle.book.proofs.FormMentions.{FewMentions, form-mentions}
@@ -83,6 +84,17 @@ condition-in-range n c h room =
     let m : Bool = mentionsBelow n (c .expression) in
     record { threshold = and-left t m h; mentionsRoom = room; mentions = and-right t m h }
 
+-- two signals of 0 to 15 that differ
+pub exclusion-in-range : (a b : ℕ) → exclusionInRange a b ≡ true → ExclusionInRange (record { first = a; second = b })
+exclusion-in-range a b h =
+    let both = and-left (leb a 15 && leb b 15) (not (eqb a b)) h in
+    let differ = not-true (eqb a b) (and-right (leb a 15 && leb b 15) (not (eqb a b)) h) in
+    record {
+      first = omega (arith, leb-true a 15 (and-left (leb a 15) (leb b 15) both));
+      second = omega (arith, leb-true b 15 (and-right (leb a 15) (leb b 15) both));
+      apart = eqb-false a b differ;
+    }
+
 -- ---- a book
 
 one-in-range : (ps : List Policy) (i : ℕ) → Each PolicyInRange ps → i < length ps → PolicyInRange (policyAt ps i)
@@ -102,8 +114,10 @@ module _ (b : Book) (h : BookInRange b) where
   policy-added p empty room k =
       record {
         policiesRoom = omega (arith, length-append (b .policies) (p ∷ []));
+        exclusionsRoom = h .exclusionsRoom;
         conditionsRoom = h .conditionsRoom;
         policies = each-more PolicyInRange (b .policies) p (h .policies) k;
+        exclusions = h .exclusions;
         conditions = each-none (ConditionInRange (length (b .policies ++ (p ∷ [])))) (b .conditions) empty;
       }
 
@@ -113,9 +127,23 @@ module _ (b : Book) (h : BookInRange b) where
       let same = length-set (b .policies) (length (b .policies) - 1) p in
       record {
         policiesRoom = omega (arith, h .policiesRoom);
+        exclusionsRoom = h .exclusionsRoom;
         conditionsRoom = h .conditionsRoom;
         policies = each-set PolicyInRange (b .policies) (length (b .policies) - 1) p (h .policies) k;
+        exclusions = h .exclusions;
         conditions = rw same (h .conditions);
+      }
+
+  exclusion-added : (x : Exclusion) → length (b .exclusions) < 16 → ExclusionInRange x → BookInRange (withExclusion b x)
+  unfolding withExclusion
+  exclusion-added x room k =
+      record {
+        policiesRoom = h .policiesRoom;
+        exclusionsRoom = omega (arith, length-append (b .exclusions) (x ∷ []));
+        conditionsRoom = h .conditionsRoom;
+        policies = h .policies;
+        exclusions = each-more ExclusionInRange (b .exclusions) x (h .exclusions) k;
+        conditions = h .conditions;
       }
 
   condition-added : (c : Condition) → length (b .conditions) < 8 → ConditionInRange (length (b .policies)) c → BookInRange (withCondition b c)
@@ -123,8 +151,10 @@ module _ (b : Book) (h : BookInRange b) where
   condition-added c room k =
       record {
         policiesRoom = h .policiesRoom;
+        exclusionsRoom = h .exclusionsRoom;
         conditionsRoom = omega (arith, length-append (b .conditions) (c ∷ []));
         policies = h .policies;
+        exclusions = h .exclusions;
         conditions = each-more (ConditionInRange (length (b .policies))) (b .conditions) c (h .conditions) k;
       }
 
@@ -132,7 +162,7 @@ module _ (b : Book) (h : BookInRange b) where
 
 pub bounded-start : Bounded noLine
 unfolding noLine emptyBook
-bounded-start = record { range = record { policiesRoom = omega arith; conditionsRoom = omega arith; policies = tt; conditions = tt }; some = λ h. clash h refl }
+bounded-start = record { range = record { policiesRoom = omega arith; exclusionsRoom = omega arith; conditionsRoom = omega arith; policies = tt; exclusions = tt; conditions = tt }; some = λ h. clash h refl }
 
 -- the last policy with one rule more
 abbrev changed : BookSoFar → ℕ → ℤ → Policy
@@ -167,6 +197,9 @@ module _ (so : BookSoFar) (b : Bounded so) where
   bounded-after (rule s v) p few =
       let same = length-set (so .book .policies) (length (so .book .policies) - 1) (changed so s v) in
       record { range = last-changed (so .book) (b .range) (changed so s v) (changed-in-range s v p); some = λ _. omega (arith, rule-some s v p) }
+  bounded-after (exclusion a c) p few =
+      let room = ltb-true (length (so .book .exclusions)) 16 (p .count) in
+      record { range = exclusion-added (so .book) (b .range) (record { first = a; second = c }) room (exclusion-in-range a c (p .range)); some = λ h. clash h refl }
   bounded-after (condition c t e) p few =
       let k : Condition = record { sense = c; threshold = t; expression = e } in
       let room = ltb-true (length (so .book .conditions)) 8 (p .count) in

@@ -13,7 +13,7 @@ use Rattle.book.specs.Text.{textLines}
 use Rattle.book.specs.Spelling.{upTo}
 use Rattle.book.specs.Acceptance.{BookSoFar, noLine, emptyBook}
 use Rattle.limits.specs.Limits.{bookFits}
-use Rattle.book.specs.Books.{readLine, readLines, read, Counts, checked, conditionAt}
+use Rattle.book.specs.Books.{readLine, readLines, read, Counts, checked}
 use Rattle.book.specs.Cells.{BookCells}
 use Rattle.book.specs.Judged.{verdictMeaning}
 use Rattle.book.specs.Taken.{soFarOf, Holds, TakenAs}
@@ -69,14 +69,9 @@ pub record Going (s : List ℕ) (at n : ℕ) (kept : SoFar) (cells : List ℤ) :
   pub held : Holds kept cells so
   pub same : readLines n so (textLines (drop at s)) ≡ read s
 
--- any cells are those of no book
-no-cells : (cells : List ℤ) → BookCells cells emptyBook
-unfolding emptyBook conditionAt
-no-cells cells = record { policies = λ k h. absurd (omega arith); conditions = λ k c h. no-refusal (sym h) }
-
-pub start : (s : List ℕ) (cells : List ℤ) → bookFits (length s) ≡ true → Going s 0 1 (record { inside = false; opened = 0; asked = 0 }) cells
+pub start : (s : List ℕ) (cells : List ℤ) → bookFits (length s) ≡ true → BookCells cells emptyBook → Going s 0 1 (record { inside = false; opened = 0; asked = 0 }) cells
 unfolding noLine emptyBook soFarOf
-start s cells h = record { so = noLine; held = record { left = refl; held = no-cells cells; bounded = bounded-start }; same = read-lines s h }
+start s cells h none = record { so = noLine; held = record { left = refl; held = none; bounded = bounded-start }; same = read-lines s h }
 
 -- the line at the place ends at e, and t and the cells after it are what the code took of it
 module _ (s : List ℕ) (at n e : ℕ) (kept : SoFar) (cells : List ℤ) (g : Going s at n kept cells) (h : at < length s) (q : e ≡ at + upTo 10 (drop at s)) (t : Taken)

@@ -18,12 +18,12 @@ use Rattle.peal.specs.declared.Operator.{Operator}
 use Rattle.peal.specs.declared.Sense.{Sense}
 use Rattle.book.specs.Text.{Line}
 use Rattle.book.specs.Expressions.{expression}
-use Rattle.book.specs.Forms.{Form, policy, rule, condition, form}
+use Rattle.book.specs.Forms.{Form, policy, rule, exclusion, condition, form}
 use Rattle.limits.specs.Limits.{lineFits}
-use Rattle.book.specs.Acceptance.{BookSoFar, noLine, lastPolicy, within, scoreInRange, mentionsBelow, inPlace, inRange, defaultOf, withRule, withPolicies, withLast, withCondition, bookWith, opensRules, accept}
+use Rattle.book.specs.Acceptance.{BookSoFar, noLine, lastPolicy, within, scoreInRange, mentionsBelow, inPlace, inCount, inRange, defaultOf, withRule, withPolicies, withLast, withExclusion, withCondition, bookWith, opensRules, accept}
 use Rattle.book.specs.Books.{acceptForm, readLine}
 use Rattle.book.specs.Cells.{PolicyCells, BookCells}
-use Rattle.book.specs.Ranges.{PolicyInRange, PolicyKept}
+use Rattle.book.specs.Ranges.{PolicyInRange, ExclusionInRange, PolicyKept, ExclusionsKept}
 use Rattle.book.specs.Judged.{verdictMeaning, after, Judged}
 use Rattle.book.specs.Taken.{soFarOf, Bounded, Holds, TakenAs}
 use Rattle.book.specs.declared.Reason.{Reason}
@@ -32,8 +32,9 @@ use Rattle.book.specs.declared.acceptance.Verdict.{Verdict}
 use Rattle.book.specs.declared.acceptance.Verdict.the-variants.{Fine, Refused}
 use Rattle.book.specs.declared.storing.SoFar.{SoFar}
 use Rattle.book.specs.declared.taking.Taken.{Taken}
+use Rattle.book.proofs.CellLaws.{book-exclusions}
 use Rattle.book.proofs.FormMentions.{FewMentions}
-use Rattle.book.proofs.RangeLaws.{Passed, passed, policy-in-range, rule-room, accept-bounded}
+use Rattle.book.proofs.RangeLaws.{Passed, passed, policy-in-range, rule-room, exclusion-in-range, accept-bounded}
 
 -- ---- taken lines
 
@@ -87,6 +88,10 @@ module _ (s : SoFar) (cells : List ℤ) (so : BookSoFar) (h : Holds s cells so) 
     abbrev pub last-kept : PolicyKept cells (s .opened - 1)
     last-kept = record { policy = lastPolicy (so .book); inside = last-inside; held = last-cells; range = last-range }
 
+  -- the exclusions so far
+  abbrev pub exclusions-so-far : ExclusionsKept cells
+  exclusions-so-far = book-exclusions (h .held) (h .bounded .range)
+
   -- ---- what a fine line leaves
 
   pub policy-left : (o : Operator) (d : Option ℤ) → _≡_ {A = SoFar} (record { inside = true; opened = s .opened + 1; asked = s .asked }) (soFarOf (after so (policy o d)))
@@ -95,6 +100,10 @@ module _ (s : SoFar) (cells : List ℤ) (so : BookSoFar) (h : Holds s cells so) 
       let p : Policy = record { operator = o; default = defaultOf o d; rules = [] } in
       let n : s .opened + 1 ≡ length (so .book .policies ++ (p ∷ [])) = omega (arith, kept-opened, length-append (so .book .policies) (p ∷ [])) in
       λ i. record { inside = true; opened = n i; asked = kept-asked i }
+
+  pub exclusion-left : (a b : ℕ) → _≡_ {A = SoFar} (record { inside = false; opened = s .opened; asked = s .asked }) (soFarOf (after so (exclusion a b)))
+  unfolding soFarOf after bookWith opensRules withExclusion
+  exclusion-left a b = λ i. record { inside = false; opened = kept-opened i; asked = kept-asked i }
 
   pub condition-left : (c : Sense) (t : ℤ) (e : Expression)
       → _≡_ {A = SoFar} (record { inside = false; opened = s .opened; asked = s .asked + 1 }) (soFarOf (after so (condition c t e)))
@@ -136,6 +145,16 @@ module _ (s : SoFar) (cells : List ℤ) (so : BookSoFar) (h : Holds s cells so) 
       omega (arith, leb-true signal 15 (and-left (leb signal 15) (scoreInRange (lastPolicy (so .book) .operator) v) (pass .range))),
     )
 
+-- a fine exclusion leaves room, and is in range
+module _ (so : BookSoFar) (a b : ℕ) (j : Judged so (exclusion a b) Fine) where
+  pub exclusion-room : length (so .book .exclusions) < 16
+  unfolding inCount
+  exclusion-room = ltb-true (length (so .book .exclusions)) 16 (fine-passed so (exclusion a b) j .count)
+
+  pub exclusion-fits : ExclusionInRange (record { first = a; second = b })
+  unfolding inRange
+  exclusion-fits = exclusion-in-range a b (fine-passed so (exclusion a b) j .range)
+
 -- the cells after a fine line
 module _ (cells : List ℤ) (so : BookSoFar) where
   pub policy-cells : (o : Operator) (d : Option ℤ) (z : ℤ) → z ≡ defaultOf o d
@@ -148,6 +167,10 @@ module _ (cells : List ℤ) (so : BookSoFar) where
       → BookCells cells (after so (rule s z) .book)
   unfolding after bookWith
   rule-cells s y z e k = subst (λ (x : ℤ). BookCells cells (withLast (so .book) (withRule (lastPolicy (so .book)) (record { signal = s; score = x })))) e k
+
+  pub exclusion-cells : (a b : ℕ) → BookCells cells (withExclusion (so .book) (record { first = a; second = b })) → BookCells cells (after so (exclusion a b) .book)
+  unfolding after bookWith
+  exclusion-cells a b k = k
 
   pub condition-cells : (c : Condition) → BookCells cells (withCondition (so .book) c) → BookCells cells (after so (condition (c .sense) (c .threshold) (c .expression)) .book)
   unfolding after bookWith
@@ -185,18 +208,18 @@ module _ (n : ℕ) (so : BookSoFar) (l : Line) (t : Taken) (cells : List ℤ) (s
   unfolding readLine
   taken-open h v = rw (short, h) (ap (λ (w : Verdict). verdictMeaning n w noLine) v)
 
-  module _ (whole : l .ended ≡ true) where
-    by-form : (o : Option Form) → form (l .text) ≡ o → acceptForm n so o ≡ readLine n so l
-    unfolding readLine
-    by-form o e = rw (short, whole, e)
+  pub taken-read : l .ended ≡ true → (o : Option Form) → form (l .text) ≡ o → TakenAs n (acceptForm n so o) t cells → TakenAs n (readLine n so l) t cells
+  unfolding readLine
+  taken-read whole o e h = rw (short, whole, e) h
 
-    pub taken-form : (f : Form) → form (l .text) ≡ some f → TakenAs n (accept n so f) t cells → TakenAs n (readLine n so l) t cells
-    unfolding acceptForm
-    taken-form f e h = subst (λ (a : Answer BookSoFar). TakenAs n a t cells) (by-form (some f) e) h
+module _ (n : ℕ) (so : BookSoFar) (o : Option Form) (t : Taken) (cells : List ℤ) where
+  pub taken-form : (f : Form) → o ≡ some f → TakenAs n (accept n so f) t cells → TakenAs n (acceptForm n so o) t cells
+  unfolding acceptForm
+  taken-form f e h = rw e h
 
-    pub taken-none : form (l .text) ≡ none → t .verdict ≡ Refused NoForm → TakenAs n (readLine n so l) t cells
-    unfolding acceptForm
-    taken-none e v = subst (λ (a : Answer BookSoFar). TakenAs n a t cells) (by-form none e) (ap (λ (w : Verdict). verdictMeaning n w noLine) v)
+  pub taken-none : o ≡ none → t .verdict ≡ Refused NoForm → TakenAs n (acceptForm n so o) t cells
+  unfolding acceptForm
+  taken-none e v = rw e (ap (λ (w : Verdict). verdictMeaning n w noLine) v)
 
 -- ---- a condition's form, by its expression
 

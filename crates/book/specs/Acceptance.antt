@@ -1,6 +1,6 @@
--- The acceptance of a line (document 01, "Place" and "Ranges" of "The book", refusals 3 to 6).
+-- The acceptance of a line (document 01, "Place" and "Ranges" of "The book", refusals 3 to 6; change request 1 for an `x`).
 use Prim.Native.Nat.{ℕ, _-_}
-use mathlib.Core.Bool.{Bool, true, false, not, _&&_}
+use mathlib.Core.Bool.{Bool, true, false, not, _&&_, _||_}
 use mathlib.Core.List.{List, [], _∷_, _++_}
 use mathlib.Core.Option.{Option, none, some}
 use lib.Dec.{ltb, eqb}
@@ -9,11 +9,11 @@ use lib.ListN.{length, set}
 use Rattle.arith.specs.Lists.{any}
 use Rattle.arith.specs.Trees.{treeValue}
 use Rattle.answers.specs.Answers.{Answer, result, require}
-use Rattle.peal.specs.Policies.{Rule, Policy, MinMax, Expression, Condition, Book, policyAt}
+use Rattle.peal.specs.Policies.{Rule, Policy, MinMax, Expression, Exclusion, Condition, Book, policyAt}
 use Rattle.peal.specs.declared.Operator.{Operator}
-use Rattle.limits.specs.Limits.{roomForPolicy, roomForCondition, signalInRange, thresholdInRange}
+use Rattle.limits.specs.Limits.{roomForPolicy, roomForCondition, roomForExclusion, signalInRange, exclusionInRange, thresholdInRange}
 unfoldable pub use Rattle.limits.specs.Limits.{roomForRule, within, defaultInRange, scoreInRange}
-use Rattle.book.specs.Forms.{Form, policy, rule, condition}
+use Rattle.book.specs.Forms.{Form, policy, rule, exclusion, condition}
 
 -- the book so far, and whether the line above is a `p` or an `r`
 pub record BookSoFar : Type 0 where
@@ -22,7 +22,7 @@ pub record BookSoFar : Type 0 where
 
 -- the book with nothing in it
 unfoldable pub emptyBook : Book
-emptyBook = record { policies = []; conditions = [] }
+emptyBook = record { policies = []; exclusions = []; conditions = [] }
 
 -- before the first line
 unfoldable pub noLine : BookSoFar
@@ -32,32 +32,44 @@ noLine = record { book = emptyBook; inRules = false }
 unfoldable pub lastPolicy : Book → Policy
 lastPolicy b = policyAt (b .policies) (length (b .policies) - 1)
 
--- 3: `p` only before the first `c`; `r` only directly after a `p` or `r`
+-- no `c` stands above
+abbrev pub noCondition : BookSoFar → Bool
+noCondition so = eqb (length (so .book .conditions)) 0
+
+-- 3: `p` and `x` only before the first `c`; `r` only directly after a `p` or `r`
 unfoldable pub inPlace : BookSoFar → Form → Bool
-inPlace so (policy op d) = eqb (length (so .book .conditions)) 0
+inPlace so (policy op d) = noCondition so
 inPlace so (rule s v) = so .inRules
+inPlace so (exclusion a b) = noCondition so
 inPlace so (condition c t e) = true
 
--- 4: at most 16 policies, 8 conditions, 8 rules in a mul policy
+-- 4: at most 16 policies, 8 conditions, 8 rules in a mul policy, 16 exclusions
 unfoldable pub inCount : BookSoFar → Form → Bool
 inCount so (policy op d) = roomForPolicy (length (so .book .policies))
 inCount so (rule s v) = roomForRule (lastPolicy (so .book) .operator) (length (lastPolicy (so .book) .rules))
+inCount so (exclusion a b) = roomForExclusion (length (so .book .exclusions))
 inCount so (condition c t e) = roomForCondition (length (so .book .conditions))
 
 -- each policy mentioned is one of the first n
 unfoldable pub mentionsBelow : ℕ → Expression → Bool
 mentionsBelow n e = treeValue (λ (m : MinMax) a b. a && b) (λ m. ltb m n) e
 
--- 5: numbers in range; S is 0 to 15; T is −200,000 to 200,000; a policy number belongs to a policy above
+-- 5: numbers in range; S, A and B are 0 to 15, and A is not B; T is −200,000 to 200,000; a policy number belongs to a policy above
 unfoldable pub inRange : BookSoFar → Form → Bool
 inRange so (policy op d) = defaultInRange d
 inRange so (rule s v) = signalInRange s && scoreInRange (lastPolicy (so .book) .operator) v
+inRange so (exclusion a b) = exclusionInRange a b
 inRange so (condition c t e) = thresholdInRange t && mentionsBelow (length (so .book .policies)) e
 
--- 6: a signal occurs at most once in a policy
+-- an exclusion has these two signals, in either order
+unfoldable pub excludes : (a b : ℕ) → Exclusion → Bool
+excludes a b x = (eqb (x .first) a && eqb (x .second) b) || (eqb (x .first) b && eqb (x .second) a)
+
+-- 6: a signal occurs at most once in a policy, and a pair at most once in the book
 unfoldable pub isNew : BookSoFar → Form → Bool
 isNew so (policy op d) = true
 isNew so (rule s v) = not (any (λ (q : Rule). eqb (q .signal) s) (lastPolicy (so .book) .rules))
+isNew so (exclusion a b) = not (any (excludes a b) (so .book .exclusions))
 isNew so (condition c t e) = true
 
 -- `p OP` alone means D = 0
@@ -71,27 +83,33 @@ withRule p r = record { operator = p .operator; default = p .default; rules = p 
 
 -- the book with other policies
 unfoldable pub withPolicies : Book → List Policy → Book
-withPolicies b ps = record { policies = ps; conditions = b .conditions }
+withPolicies b ps = record { policies = ps; exclusions = b .exclusions; conditions = b .conditions }
 
 -- the book with its last policy changed
 unfoldable pub withLast : Book → Policy → Book
 withLast b p = withPolicies b (set (b .policies) (length (b .policies) - 1) p)
 
+-- the book with one exclusion more
+unfoldable pub withExclusion : Book → Exclusion → Book
+withExclusion b x = record { policies = b .policies; exclusions = b .exclusions ++ (x ∷ []); conditions = b .conditions }
+
 -- the book with one condition more
 unfoldable pub withCondition : Book → Condition → Book
-withCondition b c = record { policies = b .policies; conditions = b .conditions ++ (c ∷ []) }
+withCondition b c = record { policies = b .policies; exclusions = b .exclusions; conditions = b .conditions ++ (c ∷ []) }
 
--- the book with the line added: a policy at the end, a rule in the last policy, a condition at the end
+-- the book with the line added: a policy, an exclusion or a condition at the end, a rule in the last policy
 unfoldable pub bookWith : BookSoFar → Form → Book
 bookWith so (policy op d) =
     withPolicies (so .book) (so .book .policies ++ (record { operator = op; default = defaultOf op d; rules = [] } ∷ []))
 bookWith so (rule s v) = withLast (so .book) (withRule (lastPolicy (so .book)) (record { signal = s; score = v }))
+bookWith so (exclusion a b) = withExclusion (so .book) (record { first = a; second = b })
 bookWith so (condition c t e) = withCondition (so .book) (record { sense = c; threshold = t; expression = e })
 
 -- an `r` may follow a `p` or an `r`
 unfoldable pub opensRules : Form → Bool
 opensRules (policy op d) = true
 opensRules (rule s v) = true
+opensRules (exclusion a b) = false
 opensRules (condition c t e) = false
 
 -- line n of this form: tried in the order 3 to 6, then added

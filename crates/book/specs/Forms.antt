@@ -1,4 +1,4 @@
--- The forms of a line (document 01, "The book": `p OP D`, `p OP`, `r S V`, `c T < E`, `c T >= E`).
+-- The forms of a line (document 01, "The book": `p OP D`, `p OP`, `r S V`, `c T < E`, `c T >= E`; change request 1: `x A B`).
 use Prim.Native.Nat.{ℕ}
 use mathlib.Core.Bool.{cond}
 use mathlib.Core.List.{List, [], _∷_}
@@ -20,6 +20,8 @@ pub data Form : Type 0 where
   policy : Operator → Option ℤ → Form
   -- `r S V`
   rule : ℕ → ℤ → Form
+  -- `x A B`
+  exclusion : (a b : ℕ) → Form
   -- `c T < E`, `c T >= E`
   condition : Sense → ℤ → Expression → Form
 
@@ -67,6 +69,13 @@ ruleLine s v = do
   score ← number v
   some (rule signal score)
 
+-- `x A B`
+unfoldable pub exclusionLine : (a b : List ℕ) → Option Form
+exclusionLine a b = do
+  first ← natural a
+  second ← natural b
+  some (exclusion first second)
+
 -- `c T < E`, `c T >= E`
 unfoldable pub conditionLine : (t c e : List ℕ) → Option Form
 conditionLine t c e = do
@@ -80,7 +89,10 @@ unfoldable pub formOf : List (List ℕ) → Option Form
 formOf [] = none
 formOf (k ∷ []) = none
 formOf (k ∷ a ∷ []) = if is (bytes "p") k then barePolicy a
-formOf (k ∷ a ∷ b ∷ []) = cond (is (bytes "p") k) (fullPolicy a b) (if is (bytes "r") k then ruleLine a b)
+formOf (k ∷ a ∷ b ∷ []) =
+    cond (is (bytes "p") k) (fullPolicy a b)
+    (cond (is (bytes "r") k) (ruleLine a b)
+    (if is (bytes "x") k then exclusionLine a b))
 formOf (k ∷ a ∷ b ∷ e ∷ []) = if is (bytes "c") k then conditionLine a b e
 formOf (k ∷ a ∷ b ∷ e ∷ f ∷ fs) = none
 

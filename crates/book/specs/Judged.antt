@@ -10,8 +10,9 @@ use Rattle.answers.specs.Answers.{Answer, result, refused}
 use Rattle.peal.specs.Policies.{Expression}
 use Rattle.peal.specs.declared.Operator.{Operator}
 use Rattle.peal.specs.declared.Sense.{Sense}
-use Rattle.book.specs.Forms.{Form, policy, condition}
+use Rattle.book.specs.Forms.{Form, policy, exclusion, condition}
 use Rattle.book.specs.Acceptance.{BookSoFar, defaultInRange, bookWith, opensRules, accept}
+use Rattle.book.specs.Cells.{ExclusionCells}
 use Rattle.book.specs.Codes.{HoldsCodes}
 use Rattle.book.specs.Meaning.{reasonNumber}
 use Rattle.book.specs.declared.acceptance.Verdict.{Verdict}
@@ -35,6 +36,11 @@ abbrev pub PolicyJudged : ℕ → ℕ → Bool → Verdict → Type 0
 PolicyJudged asked opened inRange v =
     (so : BookSoFar) (o : Operator) (d : Option ℤ) → asked ≡ length (so .book .conditions) → opened ≡ length (so .book .policies) → inRange ≡ defaultInRange d
     → Judged so (policy o d) v
+
+-- the verdict on an exclusion, from the count of conditions and the cells
+abbrev pub ExclusionJudged : ℕ → List ℤ → (a b : ℕ) → Verdict → Type 0
+ExclusionJudged asked cells a b v =
+    (so : BookSoFar) → asked ≡ length (so .book .conditions) → ExclusionCells cells (so .book .exclusions) → Judged so (exclusion a b) v
 
 -- the verdict on a condition, from the counts and the codes of its expression
 abbrev pub ConditionJudged : ℕ → ℕ → ℤ → List ℕ → ℕ → Verdict → Type 0

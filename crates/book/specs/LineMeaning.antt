@@ -6,8 +6,8 @@ use mathlib.Core.Path.{_≡_}
 use lib.ListN.{length, drop}
 use Rattle.arith.specs.Options.{_>>=_}
 use Rattle.book.specs.Expressions.{expression}
-use Rattle.book.specs.Forms.{Form, policy, rule, condition, formOf}
-use Rattle.book.specs.declared.lines.Line.the-variants.{Policy, BarePolicy, Rule, Condition}
+use Rattle.book.specs.Forms.{Form, policy, rule, exclusion, condition, formOf}
+use Rattle.book.specs.declared.lines.Line.the-variants.{Policy, BarePolicy, Rule, Condition, Exclusion}
 use Rattle.book.specs.declared.lines.LineRead.{LineRead}
 use Rattle.book.specs.declared.lines.LineRead.the-variants.{Good, NoForm}
 
@@ -16,6 +16,7 @@ abbrev pub lineMeaning : List ℕ → LineRead → Option Form
 lineMeaning line (Good (Policy o d)) = some (policy o (some d))
 lineMeaning line (Good (BarePolicy o)) = some (policy o none)
 lineMeaning line (Good (Rule s v)) = some (rule s v)
+lineMeaning line (Good (Exclusion a b)) = some (exclusion a b)
 lineMeaning line (Good (Condition c t i)) = do
   e ← expression (drop i line)
   some (condition c t e)
@@ -26,6 +27,7 @@ abbrev pub StartIn : List ℕ → LineRead → Type 0
 StartIn line (Good (Policy o d)) = Unit {0}
 StartIn line (Good (BarePolicy o)) = Unit {0}
 StartIn line (Good (Rule s v)) = Unit {0}
+StartIn line (Good (Exclusion a b)) = Unit {0}
 StartIn line (Good (Condition c t i)) = (6 ≤ i) × (i ≤ length line)
 StartIn line NoForm = Unit {0}
 

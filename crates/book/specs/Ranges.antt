@@ -8,11 +8,11 @@ use lib.ListN.{length}
 use Rattle.arith.specs.Lists.{Each, AllBelow, Distinct}
 use Rattle.answers.specs.Answers.{result}
 use Rattle.arith.specs.Trees.{treeValue}
-use Rattle.peal.specs.Policies.{Rule, Policy, MinMax, Expression, Condition, Book}
+use Rattle.peal.specs.Policies.{Rule, Policy, MinMax, Expression, Exclusion, Condition, Book}
 use Rattle.peal.specs.declared.Operator.the-variants.{Mul}
 use Rattle.book.specs.Acceptance.{within, scoreInRange, mentionsBelow}
 use Rattle.book.specs.Books.{conditionAt}
-use Rattle.book.specs.Cells.{PolicyCells, BookCells, storedPolicy}
+use Rattle.book.specs.Cells.{PolicyCells, ExclusionCells, BookCells, storedPolicy}
 use Rattle.book.specs.declared.cells.Policy.{Policy as StoredPolicy}
 
 -- the signals of some rules
@@ -27,6 +27,12 @@ pub record PolicyInRange (p : Policy) : Type 0 where
   pub scores : Each (λ (r : Rule). scoreInRange (p .operator) (r .score) ≡ true) (p .rules)
   pub room : p .operator ≡ Mul → length (p .rules) ≤ 8
 
+-- two different signals
+pub record ExclusionInRange (x : Exclusion) : Type 0 where
+  pub first : x .first < 16
+  pub second : x .second < 16
+  pub apart : x .first ≡ x .second → ⊥
+
 -- how many mentions of a policy an expression has
 unfoldable pub mentionCount : Expression → ℕ
 mentionCount e = treeValue (λ (m : MinMax) a b. a + b) (λ n. 1) e
@@ -37,11 +43,13 @@ pub record ConditionInRange (n : ℕ) (c : Condition) : Type 0 where
   pub mentionsRoom : mentionCount (c .expression) ≤ 16
   pub mentions : mentionsBelow n (c .expression) ≡ true
 
--- at most 16 policies and 8 conditions, each in range
+-- at most 16 policies, 16 exclusions and 8 conditions, each in range
 pub record BookInRange (b : Book) : Type 0 where
   pub policiesRoom : length (b .policies) ≤ 16
+  pub exclusionsRoom : length (b .exclusions) ≤ 16
   pub conditionsRoom : length (b .conditions) ≤ 8
   pub policies : Each PolicyInRange (b .policies)
+  pub exclusions : Each ExclusionInRange (b .exclusions)
   pub conditions : Each (ConditionInRange (length (b .policies))) (b .conditions)
 
 -- the cells of policy k are those of a policy in range
@@ -50,6 +58,13 @@ pub record PolicyKept (cells : List ℤ) (k : ℕ) : Type 0 where
   pub inside : k < 16
   pub held : PolicyCells cells k policy
   pub range : PolicyInRange policy
+
+-- the cells of the exclusions are those of at most 16 in range
+pub record ExclusionsKept (cells : List ℤ) : Type 0 where
+  pub exclusions : List Exclusion
+  pub held : ExclusionCells cells exclusions
+  pub room : length exclusions ≤ 16
+  pub range : Each ExclusionInRange exclusions
 
 -- the cells are those of a book in range, and condition k is one of it
 pub record ConditionKept (cells : List ℤ) (k : ℕ) : Type 0 where

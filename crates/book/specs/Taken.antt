@@ -10,16 +10,18 @@ use Rattle.answers.specs.Answers.{Answer, result, refused}
 use Rattle.peal.specs.Policies.{Expression}
 use Rattle.peal.specs.declared.Operator.{Operator}
 use Rattle.peal.specs.declared.Sense.{Sense}
-use Rattle.book.specs.Text.{Line}
-use Rattle.book.specs.Forms.{policy, rule, condition}
+use Rattle.book.specs.Forms.{policy, rule, exclusion, condition}
 use Rattle.book.specs.Acceptance.{BookSoFar, noLine, defaultOf, defaultInRange, accept}
-use Rattle.book.specs.Books.{readLine}
+use Rattle.book.specs.Books.{acceptForm, readLine}
+use Rattle.book.specs.LineMeaning.{lineMeaning}
 use Rattle.book.specs.Ranges.{BookInRange}
 use Rattle.book.specs.Codes.{HoldsCodes}
 use Rattle.book.specs.Cells.{BookCells}
 use Rattle.book.specs.Judged.{Judged, verdictMeaning}
 use Rattle.book.specs.declared.acceptance.Verdict.{Verdict}
 use Rattle.book.specs.declared.acceptance.Verdict.the-variants.{Fine}
+use Rattle.book.specs.declared.lines.Line.{Line}
+use Rattle.book.specs.declared.lines.LineRead.the-variants.{Good}
 use Rattle.book.specs.declared.storing.SoFar.{SoFar}
 use Rattle.book.specs.declared.taking.Taken.{Taken}
 
@@ -50,7 +52,7 @@ TakenAs n (refused k v) t cells = verdictMeaning n (t .verdict) noLine ≡ refus
 abbrev pub RuleJudged : SoFar → List ℤ → ℕ → ℤ → Verdict → Type 0
 RuleJudged s cells signal w v = (so : BookSoFar) → Holds s cells so → Judged so (rule signal w) v
 
--- a policy, a rule, a condition and a line, taken: the cells are `before`, and then `cells`
+-- a policy, a rule, an exclusion, a condition, a form that was read of a line, and a line, taken: the cells are `before`, and then `cells`
 abbrev pub PolicyTaken : SoFar → List ℤ → Operator → ℤ → Bool → Taken → List ℤ → Type 0
 PolicyTaken s before o z ranged t cells =
     (n : ℕ) (so : BookSoFar) (d : Option ℤ) → Holds s before so → z ≡ defaultOf o d → ranged ≡ defaultInRange d → TakenAs n (accept n so (policy o d)) t cells
@@ -58,9 +60,17 @@ PolicyTaken s before o z ranged t cells =
 abbrev pub RuleTaken : SoFar → List ℤ → ℕ → ℤ → Taken → List ℤ → Type 0
 RuleTaken s before signal v t cells = (n : ℕ) (so : BookSoFar) → Holds s before so → TakenAs n (accept n so (rule signal v)) t cells
 
+abbrev pub ExclusionTaken : SoFar → List ℤ → (a b : ℕ) → Taken → List ℤ → Type 0
+ExclusionTaken s before a b t cells = (n : ℕ) (so : BookSoFar) → Holds s before so → TakenAs n (accept n so (exclusion a b)) t cells
+
 abbrev pub ConditionTaken : SoFar → List ℤ → Sense → ℤ → List ℕ → ℕ → Taken → List ℤ → Type 0
 ConditionTaken s before c t codes count r cells =
     (n : ℕ) (so : BookSoFar) (e : Expression) → Holds s before so → HoldsCodes codes count e → TakenAs n (accept n so (condition c t e)) r cells
 
-abbrev pub LineTaken : SoFar → List ℤ → Line → Taken → List ℤ → Type 0
-LineTaken s before l t cells = (n : ℕ) (so : BookSoFar) → Holds s before so → TakenAs n (readLine n so l) t cells
+abbrev pub FormTaken : SoFar → List ℤ → List ℕ → Line → Taken → List ℤ → Type 0
+FormTaken s before text f t cells =
+    (n : ℕ) (so : BookSoFar) → Holds s before so → TakenAs n (acceptForm n so (lineMeaning text (Good f))) t cells
+
+abbrev pub LineTaken : SoFar → List ℤ → List ℕ → Bool → Taken → List ℤ → Type 0
+LineTaken s before text ended t cells =
+    (n : ℕ) (so : BookSoFar) → Holds s before so → TakenAs n (readLine n so (record { text = text; ended = ended })) t cells

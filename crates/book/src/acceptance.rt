@@ -3,15 +3,23 @@
 use crate::Reason;
 use crate::cells::Cells;
 use crate::cells::count_at;
+use crate::cells::exclusion_count;
+use crate::cells::first_at;
 use crate::cells::mask_at;
 use crate::cells::operator_at;
+use crate::cells::second_at;
 use crate::storing::SoFar;
+ghost use mathlib.Core.Bool.{_&&_};
 ghost use mathlib.Core.Path.{_≡_};
 ghost use Prim.Native.Nat.{_≤_, _<_};
+ghost use lib.Dec.{eqb};
+ghost use Rattle.arith.specs.Lists.{any};
 ghost use Rattle.peal.specs.Policies.{Expression};
 ghost use Rattle.book.specs.Codes.{HoldsCodes};
-ghost use Rattle.book.specs.Acceptance.{mentionsBelow};
-ghost use Rattle.book.specs.Judged.{PolicyJudged, ConditionJudged};
+ghost use Rattle.book.specs.Acceptance.{mentionsBelow, excludes};
+ghost use Rattle.book.specs.Cells.{ForExclusions};
+ghost use Rattle.book.specs.Ranges.{ExclusionsKept};
+ghost use Rattle.book.specs.Judged.{PolicyJudged, ExclusionJudged, ConditionJudged};
 ghost use Rattle.book.specs.Taken.{Kept, RuleJudged};
 
 // Each policy that the expression mentions is one of the first n.
@@ -27,6 +35,34 @@ fn mentions_below(codes: &[u32; 31], count: usize, n: u32) -> bool
         i += 1;
     }
     true
+}
+
+// a is first, and b is second.
+fn are_both(a: u32, b: u32, first: u32, second: u32) -> bool
+    ensures { λ r. ⌜ r ≡ (eqb a first && eqb b second) ⌝ }
+{
+    if a == first { b == second } else { false }
+}
+
+// The book has an exclusion of these two signals, in either order.
+fn has_exclusion(cells: &Cells, first: u32, second: u32) -> bool
+    requires { ⌜ ExclusionsKept (now cells) ⌝ }
+    ensures { λ r. ⌜ ForExclusions (now (cells .entry)) (λ xs. r ≡ any (excludes first second) xs) ⌝ }
+{
+    let n = exclusion_count(cells);
+    let mut i = 0;
+    while i < n {
+        let one = first_at(cells, i);
+        let other = second_at(cells, i);
+        if are_both(one, other, first, second) {
+            return true;
+        }
+        if are_both(one, other, second, first) {
+            return true;
+        }
+        i += 1;
+    }
+    false
 }
 
 // A line is fine, or refused for a reason.
@@ -92,6 +128,25 @@ pub fn judge_condition(
     }
     if !mentions_below(codes, n, opened as u32) {
         return Verdict::Refused(Reason::OutOfRange);
+    }
+    Verdict::Fine
+}
+
+pub fn judge_exclusion(cells: &Cells, asked: usize, first: u32, second: u32) -> Verdict
+    requires { ⌜ ExclusionsKept (now cells) ⌝ }
+    ensures { λ r. ⌜ ExclusionJudged asked (now (cells .entry)) first second r ⌝ }
+{
+    if 0 < asked {
+        return Verdict::Refused(Reason::OutOfPlace);
+    }
+    if !limits::room_for_exclusion(exclusion_count(cells)) {
+        return Verdict::Refused(Reason::TooMany);
+    }
+    if !limits::exclusion_in_range(first, second) {
+        return Verdict::Refused(Reason::OutOfRange);
+    }
+    if has_exclusion(cells, first, second) {
+        return Verdict::Refused(Reason::Repeated);
     }
     Verdict::Fine
 }

@@ -1,19 +1,51 @@
 // The read book as cells: numbers alone, which can be lent; a struct would be copied at every call.
-// Policy k has the 36 cells from 36 k on: its operator, its default, how many rules, the set of their signals, and from the
-// fifth and the 21st on their signals and scores. Condition k has the 34 cells from 576 + 34 k on: its sense, its threshold,
-// how many codes, and these codes. No other cell means anything.
+// The policies come first, then the conditions, then the exclusions. No cell means anything but those that are named here.
 // The functions are for this crate and those above, which have the cells of a book in range: no call that a user makes has a
 // condition, and each call of these is proved to meet it.
 ghost use mathlib.Core.Path.{_≡_};
 ghost use Prim.Native.Nat.{_<_};
 ghost use lib.ListN.{length, getD};
-ghost use Rattle.peal.specs.Policies.{Policy as PealPolicy, Condition as PealCondition, noRule};
+ghost use Rattle.peal.specs.Policies.{Policy as PealPolicy, Condition as PealCondition, noRule, noExclusion};
 ghost use Rattle.peal.specs.Translation.{maskOf};
 ghost use Rattle.book.specs.Codes.{codesOf};
-ghost use Rattle.book.specs.Cells.{PolicyCells, ConditionCells, storedPolicy};
-ghost use Rattle.book.specs.Ranges.{PolicyKept, ConditionKept};
+ghost use Rattle.book.specs.Cells.{PolicyCells, ForExclusions, ConditionCells, storedPolicy};
+ghost use Rattle.book.specs.Ranges.{PolicyKept, ExclusionsKept, ConditionKept};
 
-pub type Cells = [i32; 848];
+pub const CELL_COUNT: usize = 881;
+
+pub type Cells = [i32; CELL_COUNT];
+
+// Policy k has the 36 cells from k * POLICY_CELLS on: its operator, and at these places after that its default, how many rules,
+// the set of their signals, their signals and their scores.
+pub const POLICY_CELLS: usize = 36;
+
+pub const DEFAULT: usize = 1;
+
+pub const COUNT: usize = 2;
+
+pub const MASK: usize = 3;
+
+pub const SIGNALS: usize = 4;
+
+pub const SCORES: usize = 20;
+
+// Condition k has 34 cells: k * CONDITION_CELLS after these places stand its sense, its threshold, how many codes, and the codes.
+pub const CONDITION_CELLS: usize = 34;
+
+pub const SENSE: usize = 576;
+
+pub const THRESHOLD: usize = 577;
+
+pub const LENGTH: usize = 578;
+
+pub const CODES: usize = 579;
+
+// How many exclusions there are, the first signal of each, and the second signal of each.
+pub const EXCLUSION_COUNT_CELL: usize = 848;
+
+pub const FIRSTS: usize = 849;
+
+pub const SECONDS: usize = 865;
 
 // A policy by value: its first `count` signals and scores are its rules.
 pub struct Policy {
@@ -28,7 +60,7 @@ pub fn operator_at(cells: &Cells, k: usize) -> peal::Operator
     requires { ⌜ PolicyKept (now cells) k ⌝ }
     ensures { λ r. ⌜ ((p : PealPolicy) → PolicyCells (now (cells .entry)) k p → r ≡ p .operator) ⌝ }
 {
-    let code = cells[k * 36];
+    let code = cells[k * POLICY_CELLS];
     match code {
         0 => peal::Operator::Min,
         1 => peal::Operator::Max,
@@ -41,7 +73,7 @@ pub fn default_at(cells: &Cells, k: usize) -> i32
     requires { ⌜ PolicyKept (now cells) k ⌝ }
     ensures { λ r. ⌜ ((p : PealPolicy) → PolicyCells (now (cells .entry)) k p → r ≡ p .default) ⌝ }
 {
-    cells[k * 36 + 1]
+    cells[k * POLICY_CELLS + DEFAULT]
 }
 
 // How many rules the policy has.
@@ -49,7 +81,7 @@ pub fn count_at(cells: &Cells, k: usize) -> usize
     requires { ⌜ PolicyKept (now cells) k ⌝ }
     ensures { λ r. ⌜ ((p : PealPolicy) → PolicyCells (now (cells .entry)) k p → r ≡ length (p .rules)) ⌝ }
 {
-    cells[k * 36 + 2] as usize
+    cells[k * POLICY_CELLS + COUNT] as usize
 }
 
 // The set of the signals of the policy's rules.
@@ -57,7 +89,7 @@ pub fn mask_at(cells: &Cells, k: usize) -> u16
     requires { ⌜ PolicyKept (now cells) k ⌝ }
     ensures { λ r. ⌜ ((p : PealPolicy) → PolicyCells (now (cells .entry)) k p → r ≡ maskOf (p .rules)) ⌝ }
 {
-    cells[k * 36 + 3] as u16
+    cells[k * POLICY_CELLS + MASK] as u16
 }
 
 // The signal of the policy's rule i.
@@ -65,7 +97,7 @@ pub fn signal_at(cells: &Cells, k: usize, i: usize) -> u32
     requires { ⌜ ((h : PolicyKept (now cells) k) × (i < length (h .policy .rules))) ⌝ }
     ensures { λ r. ⌜ ((p : PealPolicy) → PolicyCells (now (cells .entry)) k p → r ≡ getD (p .rules) i noRule .signal) ⌝ }
 {
-    cells[k * 36 + 4 + i] as u32
+    cells[k * POLICY_CELLS + SIGNALS + i] as u32
 }
 
 // The score of the policy's rule i.
@@ -73,7 +105,7 @@ pub fn score_at(cells: &Cells, k: usize, i: usize) -> i32
     requires { ⌜ ((h : PolicyKept (now cells) k) × (i < length (h .policy .rules))) ⌝ }
     ensures { λ r. ⌜ ((p : PealPolicy) → PolicyCells (now (cells .entry)) k p → r ≡ getD (p .rules) i noRule .score) ⌝ }
 {
-    cells[k * 36 + 20 + i]
+    cells[k * POLICY_CELLS + SCORES + i]
 }
 
 // The policy by value.
@@ -105,7 +137,7 @@ pub fn sense_at(cells: &Cells, k: usize) -> peal::Sense
     requires { ⌜ ConditionKept (now cells) k ⌝ }
     ensures { λ r. ⌜ ((c : PealCondition) → ConditionCells (now (cells .entry)) k c → r ≡ c .sense) ⌝ }
 {
-    let code = cells[k * 34 + 576];
+    let code = cells[k * CONDITION_CELLS + SENSE];
     match code {
         0 => peal::Sense::Above,
         _ => peal::Sense::AtMost,
@@ -116,7 +148,7 @@ pub fn threshold_at(cells: &Cells, k: usize) -> i32
     requires { ⌜ ConditionKept (now cells) k ⌝ }
     ensures { λ r. ⌜ ((c : PealCondition) → ConditionCells (now (cells .entry)) k c → r ≡ c .threshold) ⌝ }
 {
-    cells[k * 34 + 577]
+    cells[k * CONDITION_CELLS + THRESHOLD]
 }
 
 // How many codes the condition's expression has.
@@ -124,7 +156,7 @@ pub fn length_at(cells: &Cells, k: usize) -> usize
     requires { ⌜ ConditionKept (now cells) k ⌝ }
     ensures { λ r. ⌜ ((c : PealCondition) → ConditionCells (now (cells .entry)) k c → r ≡ length (codesOf (c .expression))) ⌝ }
 {
-    cells[k * 34 + 578] as usize
+    cells[k * CONDITION_CELLS + LENGTH] as usize
 }
 
 // Code i of the condition's expression.
@@ -132,5 +164,29 @@ pub fn code_at(cells: &Cells, k: usize, i: usize) -> u32
     requires { ⌜ ((h : ConditionKept (now cells) k) × (i < length (codesOf (h .condition .expression)))) ⌝ }
     ensures { λ r. ⌜ ((c : PealCondition) → ConditionCells (now (cells .entry)) k c → r ≡ getD (codesOf (c .expression)) i 0) ⌝ }
 {
-    cells[k * 34 + 579 + i] as u32
+    cells[k * CONDITION_CELLS + CODES + i] as u32
+}
+
+// How many exclusions the book has.
+pub fn exclusion_count(cells: &Cells) -> usize
+    requires { ⌜ ExclusionsKept (now cells) ⌝ }
+    ensures { λ r. ⌜ ForExclusions (now (cells .entry)) (λ xs. r ≡ length xs) ⌝ }
+{
+    cells[EXCLUSION_COUNT_CELL] as usize
+}
+
+// The first signal of exclusion i.
+pub fn first_at(cells: &Cells, i: usize) -> u32
+    requires { ⌜ ((h : ExclusionsKept (now cells)) × (i < length (h .exclusions))) ⌝ }
+    ensures { λ r. ⌜ ForExclusions (now (cells .entry)) (λ xs. r ≡ getD xs i noExclusion .first) ⌝ }
+{
+    cells[FIRSTS + i] as u32
+}
+
+// The second signal of exclusion i.
+pub fn second_at(cells: &Cells, i: usize) -> u32
+    requires { ⌜ ((h : ExclusionsKept (now cells)) × (i < length (h .exclusions))) ⌝ }
+    ensures { λ r. ⌜ ForExclusions (now (cells .entry)) (λ xs. r ≡ getD xs i noExclusion .second) ⌝ }
+{
+    cells[SECONDS + i] as u32
 }

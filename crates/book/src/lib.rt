@@ -15,16 +15,20 @@ mod words;
 ghost use mathlib.Core.Path.{_≡_};
 ghost use Prim.Native.Nat.{_<_};
 ghost use Rattle.book.specs.Meaning.{reasonNumber};
+pub use cells::CELL_COUNT;
 pub use cells::Cells;
 pub use cells::Policy;
 pub use cells::code_at;
 pub use cells::count_at;
 pub use cells::default_at;
+pub use cells::exclusion_count;
+pub use cells::first_at;
 pub use cells::length_at;
 pub use cells::mask_at;
 pub use cells::operator_at;
 pub use cells::policy_at;
 pub use cells::score_at;
+pub use cells::second_at;
 pub use cells::sense_at;
 pub use cells::signal_at;
 pub use cells::threshold_at;
@@ -38,11 +42,11 @@ pub enum Reason {
     // The line has no form, or is the last one and has no end.
     NoForm,
     OutOfPlace,
-    // One policy, condition or mul rule too many.
+    // One policy, condition, mul rule or exclusion too many.
     TooMany,
-    // A number is out of range, or there is no such policy.
+    // A number is out of range, there is no such policy, or the two signals of an exclusion are the same.
     OutOfRange,
-    // The signal is already in this policy.
+    // The signal is already in this policy, or the exclusion already in the book.
     Repeated,
 }
 

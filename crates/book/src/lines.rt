@@ -34,6 +34,10 @@ pub enum Line {
         threshold: i32,
         start: usize,
     },
+    Exclusion {
+        first: u32,
+        second: u32,
+    },
 }
 
 // A line's form, if it has one.
@@ -55,7 +59,7 @@ fn two_fields(kind: &[u8], second: &[u8]) -> LineRead
     LineRead::NoForm
 }
 
-// `p OP D`, or `r S V`.
+// `p OP D`, `r S V`, or `x A B`.
 fn three_fields(kind: &[u8], second: &[u8], third: &[u8]) -> LineRead
     ensures { λ r. ⌜ ((line : List ℕ) → Says line (now (kind .entry) ∷ now (second .entry) ∷ now (third .entry) ∷ []) r) ⌝ }
 {
@@ -76,6 +80,18 @@ fn three_fields(kind: &[u8], second: &[u8], third: &[u8]) -> LineRead
             return LineRead::NoForm;
         };
         return LineRead::Good(Line::Rule { signal, score });
+    }
+    if same(kind, b"x") {
+        let NaturalRead::Natural(first) = read_natural(second) else {
+            return LineRead::NoForm;
+        };
+        let NaturalRead::Natural(other) = read_natural(third) else {
+            return LineRead::NoForm;
+        };
+        return LineRead::Good(Line::Exclusion {
+            first: first,
+            second: other,
+        });
     }
     LineRead::NoForm
 }

@@ -3,8 +3,10 @@ use crate::Checked;
 use crate::Reason;
 use crate::Refusal;
 use crate::acceptance::Verdict;
+use crate::cells::CELL_COUNT;
 use crate::cells::Cells;
 use crate::storing::SoFar;
+use crate::storing::put_nothing;
 use crate::taking::take_line;
 use crate::text::next_byte;
 ghost use mathlib.Core.Path.{_≡_};
@@ -45,6 +47,7 @@ pub fn read(bytes: &[u8], cells: &mut Cells) -> Checked
     if !limits::book_fits(n) {
         return refused(Reason::TooLong, 0);
     }
+    put_nothing(cells);
     let mut s = SoFar {
         inside: false,
         opened: 0,
@@ -72,6 +75,6 @@ pub fn read(bytes: &[u8], cells: &mut Cells) -> Checked
 pub fn check(bytes: &[u8]) -> Checked
     ensures { λ r. ⌜ checkedMeaning r ≡ checked (now (bytes .entry)) ⌝ }
 {
-    let mut cells = [0i32; 848];
+    let mut cells = [0i32; CELL_COUNT];
     read(bytes, &mut cells)
 }

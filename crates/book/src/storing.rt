@@ -1,8 +1,23 @@
-// Policies, rules and conditions put into the cells of the book so far (module `cells` tells which).
+// Policies, rules, exclusions and conditions put into the cells of the book so far (module `cells` tells which).
 // For this crate only: no other can name these functions, and each call is proved to meet its condition.
 // They write to the cells as a slice, `all`: with it the proof is told how many cells there are.
+use crate::cells::CODES;
+use crate::cells::CONDITION_CELLS;
+use crate::cells::COUNT;
 use crate::cells::Cells;
+use crate::cells::DEFAULT;
+use crate::cells::EXCLUSION_COUNT_CELL;
+use crate::cells::FIRSTS;
+use crate::cells::LENGTH;
+use crate::cells::MASK;
+use crate::cells::POLICY_CELLS;
+use crate::cells::SCORES;
+use crate::cells::SECONDS;
+use crate::cells::SENSE;
+use crate::cells::SIGNALS;
+use crate::cells::THRESHOLD;
 use crate::cells::count_at;
+use crate::cells::exclusion_count;
 use crate::cells::mask_at;
 ghost use mathlib.Core.Bool.{true};
 ghost use mathlib.Core.List.{[], _∷_, _++_};
@@ -11,9 +26,9 @@ ghost use Prim.Native.Nat.{_+_, _≤_, _<_};
 ghost use lib.ListN.{length};
 ghost use Rattle.peal.specs.Policies.{Condition as PealCondition, Book as PealBook, Expression};
 ghost use Rattle.book.specs.Codes.{HoldsCodes};
-ghost use Rattle.book.specs.Acceptance.{withRule, withPolicies, withLast, withCondition, lastPolicy, mentionsBelow};
+ghost use Rattle.book.specs.Acceptance.{emptyBook, withRule, withPolicies, withLast, withExclusion, withCondition, lastPolicy, mentionsBelow};
 ghost use Rattle.book.specs.Cells.{operatorCode, senseCode, BookCells};
-ghost use Rattle.book.specs.Ranges.{PolicyKept, BookInRange};
+ghost use Rattle.book.specs.Ranges.{PolicyKept, ExclusionsKept, BookInRange};
 
 // What the lines so far leave for the next one, beside the cells: whether the line above is a `p` or an `r`, and the counts.
 pub struct SoFar {
@@ -42,6 +57,14 @@ fn sense_code(s: peal::Sense) -> i32
     }
 }
 
+// The book with nothing in it, whatever the cells hold.
+pub fn put_nothing(cells: &mut Cells)
+    ensures { λ r. ⌜ BookCells (now (cells .exit)) emptyBook ⌝ }
+{
+    let all: &mut [i32] = cells;
+    all[EXCLUSION_COUNT_CELL] = 0;
+}
+
 // Policy k, the next one, with no rules.
 pub fn put_policy(cells: &mut Cells, k: usize, o: peal::Operator, default: i32)
     requires { ⌜ k < 16 ⌝ }
@@ -50,10 +73,10 @@ pub fn put_policy(cells: &mut Cells, k: usize, o: peal::Operator, default: i32)
 {
     let code = operator_code(o);
     let all: &mut [i32] = cells;
-    all[k * 36] = code;
-    all[k * 36 + 1] = default;
-    all[k * 36 + 2] = 0;
-    all[k * 36 + 3] = 0;
+    all[k * POLICY_CELLS] = code;
+    all[k * POLICY_CELLS + DEFAULT] = default;
+    all[k * POLICY_CELLS + COUNT] = 0;
+    all[k * POLICY_CELLS + MASK] = 0;
 }
 
 // A rule more in policy k, the last one, which has no rule of that signal.
@@ -66,10 +89,23 @@ pub fn put_rule(cells: &mut Cells, k: usize, signal: u32, score: i32)
     let mask = mask_at(cells, k);
     let with_signal = mask as u32 + signals::bit(signal);
     let all: &mut [i32] = cells;
-    all[k * 36 + 4 + n] = signal as i32;
-    all[k * 36 + 20 + n] = score;
-    all[k * 36 + 2] = n as i32 + 1;
-    all[k * 36 + 3] = with_signal as i32;
+    all[k * POLICY_CELLS + SIGNALS + n] = signal as i32;
+    all[k * POLICY_CELLS + SCORES + n] = score;
+    all[k * POLICY_CELLS + COUNT] = n as i32 + 1;
+    all[k * POLICY_CELLS + MASK] = with_signal as i32;
+}
+
+// An exclusion more.
+pub fn put_exclusion(cells: &mut Cells, first: u32, second: u32)
+    requires { ⌜ ((h : ExclusionsKept (now cells)) × (length (h .exclusions) < 16) × (first < 16) × (second < 16)) ⌝ }
+    ensures { λ r. ⌜ ((b : PealBook) → BookCells (now (cells .entry)) b → BookInRange b
+        → BookCells (now (cells .exit)) (withExclusion b (record { first = first; second = second }))) ⌝ }
+{
+    let n = exclusion_count(cells);
+    let all: &mut [i32] = cells;
+    all[FIRSTS + n] = first as i32;
+    all[SECONDS + n] = second as i32;
+    all[EXCLUSION_COUNT_CELL] = n as i32 + 1;
 }
 
 // Condition k, the next one: the first n codes are those of its expression.
@@ -88,12 +124,12 @@ pub fn put_condition(
 {
     let code = sense_code(sense);
     let all: &mut [i32] = cells;
-    all[k * 34 + 576] = code;
-    all[k * 34 + 577] = threshold;
-    all[k * 34 + 578] = n as i32;
+    all[k * CONDITION_CELLS + SENSE] = code;
+    all[k * CONDITION_CELLS + THRESHOLD] = threshold;
+    all[k * CONDITION_CELLS + LENGTH] = n as i32;
     let mut i = 0;
     while i < n {
-        all[k * 34 + 579 + i] = codes[i] as i32;
+        all[k * CONDITION_CELLS + CODES + i] = codes[i] as i32;
         i += 1;
     }
 }

@@ -3,6 +3,7 @@
 use crate::Reason;
 use crate::acceptance::Verdict;
 use crate::acceptance::judge_condition;
+use crate::acceptance::judge_exclusion;
 use crate::acceptance::judge_policy;
 use crate::acceptance::judge_rule;
 use crate::cells::Cells;
@@ -12,14 +13,17 @@ use crate::lines::LineRead;
 use crate::lines::read_line;
 use crate::storing::SoFar;
 use crate::storing::put_condition;
+use crate::storing::put_exclusion;
 use crate::storing::put_policy;
 use crate::storing::put_rule;
 ghost use Prim.Native.Nat.{_≤_};
 ghost use mathlib.Core.Path.{_≡_};
+ghost use lib.ListN.{length};
 ghost use Rattle.peal.specs.Policies.{Expression};
 ghost use Rattle.book.specs.Codes.{HoldsCodes};
 ghost use Rattle.book.specs.declared.acceptance.Verdict.the-variants.{Refused};
-ghost use Rattle.book.specs.Taken.{Kept, PolicyTaken, RuleTaken, ConditionTaken, LineTaken};
+ghost use Rattle.book.specs.LineMeaning.{StartIn};
+ghost use Rattle.book.specs.Taken.{Kept, PolicyTaken, RuleTaken, ExclusionTaken, ConditionTaken, FormTaken, LineTaken};
 
 // The verdict on a line, and what stands so far: with the line where it is fine, and as it was where not.
 pub struct Taken {
@@ -75,6 +79,25 @@ fn take_rule(cells: &mut Cells, s: SoFar, signal: u32, score: i32) -> Taken
     }
 }
 
+fn take_exclusion(cells: &mut Cells, s: SoFar, first: u32, second: u32) -> Taken
+    requires { ⌜ Kept s (now cells) ⌝ }
+    ensures { λ r. ⌜ ExclusionTaken s (now (cells .entry)) first second r (now (cells .exit)) ⌝ }
+{
+    let v = judge_exclusion(cells, s.asked, first, second);
+    match v {
+        Verdict::Fine => {
+            put_exclusion(cells, first, second);
+            let mut so = s;
+            so.inside = false;
+            Taken {
+                verdict: Verdict::Fine,
+                so: so,
+            }
+        }
+        Verdict::Refused(r) => refused(s, r),
+    }
+}
+
 // The first n codes are those of the condition's expression.
 fn take_condition(
     cells: &mut Cells,
@@ -106,21 +129,13 @@ fn take_condition(
     }
 }
 
-// A line; `ended` tells whether byte 10 ends it.
-pub fn take_line(cells: &mut Cells, s: SoFar, line: &[u8], ended: bool) -> Taken
-    requires { ⌜ Kept s (now cells) ⌝ }
-    ensures { λ r. ⌜ LineTaken s (now (cells .entry)) (record { text = now (line .entry); ended = ended }) r (now (cells .exit)) ⌝ }
+// A line of at most 128 bytes that was read as `form`. It stands apart from `take_line` so that each form's function is put in
+// place by the back end (docs/DECISIONS.md, D34).
+fn take_form(cells: &mut Cells, s: SoFar, line: &[u8], form: Line) -> Taken
+    requires { ⌜ Kept s (now cells) × (length (now line) ≤ 128) × StartIn (now line) (LineRead.Good form) ⌝ }
+    ensures { λ r. ⌜ FormTaken s (now (cells .entry)) (now (line .entry)) form r (now (cells .exit)) ⌝ }
 {
-    if !limits::line_fits(line.len()) {
-        return refused(s, Reason::TooLong);
-    }
-    if !ended {
-        return refused(s, Reason::NoForm);
-    }
-    let LineRead::Good(l) = read_line(line) else {
-        return refused(s, Reason::NoForm);
-    };
-    match l {
+    match form {
         Line::Policy { operator, default } => {
             let ranged = limits::default_in_range(default);
             take_policy(cells, s, operator, default, ranged)
@@ -140,5 +155,23 @@ pub fn take_line(cells: &mut Cells, s: SoFar, line: &[u8], ended: bool) -> Taken
                 refused(s, Reason::NoForm)
             }
         }
+        Line::Exclusion { first, second } => take_exclusion(cells, s, first, second),
     }
+}
+
+// A line; `ended` tells whether byte 10 ends it.
+pub fn take_line(cells: &mut Cells, s: SoFar, line: &[u8], ended: bool) -> Taken
+    requires { ⌜ Kept s (now cells) ⌝ }
+    ensures { λ r. ⌜ LineTaken s (now (cells .entry)) (now (line .entry)) ended r (now (cells .exit)) ⌝ }
+{
+    if !limits::line_fits(line.len()) {
+        return refused(s, Reason::TooLong);
+    }
+    if !ended {
+        return refused(s, Reason::NoForm);
+    }
+    let LineRead::Good(form) = read_line(line) else {
+        return refused(s, Reason::NoForm);
+    };
+    take_form(cells, s, line, form)
 }

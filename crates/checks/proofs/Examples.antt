@@ -43,3 +43,19 @@ first-declined = refl
 second-declined : comparison (needs 2) [] ≡ declined second 9 0
 unfolding checksCompute
 second-declined = refl
+
+-- ---- sets with an excluded pair are passed over
+
+-- yes exactly where signals 0 and 1, or 0 and 2, are present; the first two are excluded
+excluded-set : choice (5 ∷ 3 ∷ 0 ∷ 2 ∷ 16 ∷ 7 ∷ 3 ∷ 0 ∷ 4 ∷ 3 ∷ 0 ∷ 4 ∷ 4 ∷ 5 ∷ 0 ∷ 0 ∷ []) ≡ result (both 5 0)
+unfolding checksCompute
+excluded-set = refl
+
+-- the two differ on set 3 first, which a pair of the first listing, or of the second, excludes
+excluded-by-first : comparison (5 ∷ 3 ∷ 0 ∷ 2 ∷ 16 ∷ 3 ∷ 3 ∷ 0 ∷ 4 ∷ 3 ∷ 0 ∷ 0 ∷ []) (needs 4) ≡ differ 4 second
+unfolding checksCompute
+excluded-by-first = refl
+
+excluded-by-second : comparison (needs 4) (5 ∷ 3 ∷ 0 ∷ 2 ∷ 16 ∷ 3 ∷ 3 ∷ 0 ∷ 4 ∷ 3 ∷ 0 ∷ 0 ∷ []) ≡ differ 4 first
+unfolding checksCompute
+excluded-by-second = refl

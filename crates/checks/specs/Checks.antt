@@ -1,11 +1,24 @@
--- The choice check and the comparison (document 01, "The office's checks").
+-- The choice check and the comparison (document 01, "The office's checks"; change request 1 for the sets that they walk).
 use Prim.Native.Nat.{ℕ, zero, suc, _+_, _-_}
-use mathlib.Core.Bool.{Bool, not, cond, Bool·beq}
+use mathlib.Core.Bool.{Bool, true, false, not, cond, Bool·beq, _&&_}
 use mathlib.Core.List.{List}
 use mathlib.Core.Option.{Option, none, some}
 use Rattle.answers.specs.Answers.{Answer, result, refused, onResult}
+use Rattle.arith.specs.Lists.{every}
+use Rattle.signals.specs.Sets.{inside}
+use Rattle.layout.specs.Records.{records}
+use Rattle.layout.specs.Nodes.{excluded}
 use Rattle.layout.specs.Judgement.{verdict}
 use Rattle.rod.specs.Reading.{says}
+
+-- the set has no excluded pair of the listing; the checks walk such sets only
+unfoldable pub permitted : List ℕ → ℕ → Bool
+permitted ws set = every (λ pair. not (inside pair set)) (excluded (records ws))
+
+-- the set has no excluded pair, and the listing gives yes, or no, on it
+abbrev pub gives : List ℕ → Bool → ℕ → Bool
+gives ws true = λ set. permitted ws set && says ws set
+gives ws false = λ set. permitted ws set && not (says ws set)
 
 -- the lowest of the `count` numbers from `from` on that passes the test, if there is one (`later` has a name so that it computes only if needed)
 unfoldable pub lowestFrom : ℕ → ℕ → (ℕ → Bool) → Option ℕ
@@ -27,7 +40,7 @@ pub data Choice : Type 0 where
   always never : Choice
   both : (yes no : ℕ) → Choice
 
--- from the lowest set that gives yes, and the lowest that gives no
+-- from the lowest set that gives yes, and the lowest that gives no; one of them is there, since set 0 has no pair
 unfoldable pub choiceOf : Option ℕ → Option ℕ → Choice
 choiceOf (some y) (some n) = both y n
 choiceOf (some y) none = always
@@ -35,7 +48,7 @@ choiceOf none n = never
 
 -- the choice check of a listing
 unfoldable pub choice : List ℕ → Answer Choice
-choice ws = onResult (verdict ws) (λ u. result (choiceOf (lowestSet (says ws)) (lowestSet (λ set. not (says ws set)))))
+choice ws = onResult (verdict ws) (λ u. result (choiceOf (lowestSet (gives ws true)) (lowestSet (gives ws false))))
 
 -- one of the two listings of a comparison
 pub data Which : Type 0 where
@@ -47,9 +60,9 @@ pub data Comparison : Type 0 where
   differ : (set : ℕ) (yes : Which) → Comparison
   declined : Which → (number value : ℕ) → Comparison
 
--- the two listings differ on a set
+-- the set has no excluded pair of either listing, and the two differ on it
 unfoldable pub differAt : List ℕ → List ℕ → ℕ → Bool
-differAt one two set = not (Bool·beq (says one set) (says two set))
+differAt one two set = permitted one set && permitted two set && not (Bool·beq (says one set) (says two set))
 
 -- from the lowest set where the two differ
 unfoldable pub comparisonOf : Option ℕ → List ℕ → Comparison

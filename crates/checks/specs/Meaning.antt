@@ -1,11 +1,14 @@
 -- What the answers of the code mean, by document 01's numbers.
 use Prim.Native.Nat.{ℕ}
-use mathlib.Core.Bool.{Bool, true, false, not}
 use mathlib.Core.List.{List}
 use mathlib.Core.Option.{Option, none, some}
+use mathlib.Core.Path.{_≡_}
+use lib.ListN.{length}
 use Rattle.answers.specs.Answers.{Answer, result}
+use Rattle.layout.specs.Records.{records}
+use Rattle.layout.specs.Nodes.{excluded}
+use Rattle.layout.specs.Judgement.{verdict}
 use Rattle.layout.specs.Meaning.{faultNumber, faultValue, faultMeaning}
-use Rattle.rod.specs.Reading.{says}
 use Rattle.checks.specs.Checks.{Choice, always, never, both, Comparison, alike, differ, declined, first, second}
 use Rattle.checks.specs.declared.Found.{Found}
 use Rattle.checks.specs.declared.Found.the-variants.{At, Nowhere}
@@ -34,7 +37,10 @@ abbrev pub foundMeaning : Found → Option ℕ
 foundMeaning (At set) = some set
 foundMeaning Nowhere = none
 
--- a listing gives yes, or no, on a set
-abbrev pub gives : List ℕ → Bool → ℕ → Bool
-gives ws true = λ set. says ws set
-gives ws false = λ set. not (says ws set)
+-- how many excluded pairs a listing begins with (this and the next for inner contracts only)
+abbrev pub pairCount : List ℕ → ℕ
+pairCount ws = length (excluded (records ws))
+
+-- the words are a sound listing that begins with so many pairs
+abbrev pub SoundWith : List ℕ → ℕ → Type 0
+SoundWith ws pairs = (verdict ws ≡ result tt) × (pairs ≡ pairCount ws)

@@ -1,10 +1,11 @@
-// The office's checks of a listing, and of two, over all 65,536 signal sets. A listing is examined once and not for each set.
+// The office's checks of a listing, and of two, over all signal sets without an excluded pair. A listing is examined once and
+// not for each set.
 ghost use mathlib.Core.Bool.{true, false};
 ghost use mathlib.Core.Path.{_≡_};
 ghost use Rattle.answers.specs.Answers.{result};
 ghost use Rattle.layout.specs.Judgement.{verdict};
-ghost use Rattle.checks.specs.Checks.{lowestSet, lowestSince, choice, differAt, comparison};
-ghost use Rattle.checks.specs.Meaning.{foundMeaning, gives, choiceMeaning, comparisonMeaning};
+ghost use Rattle.checks.specs.Checks.{permitted, gives, lowestSet, lowestSince, choice, differAt, comparison};
+ghost use Rattle.checks.specs.Meaning.{pairCount, SoundWith, foundMeaning, choiceMeaning, comparisonMeaning};
 
 // How many signal sets there are.
 const SETS: u32 = 65536;
@@ -15,11 +16,44 @@ pub enum Found {
     Nowhere,
 }
 
-// The sound listing gives on this set what is wanted.
-fn gives_wanted(words: &[u32], want: bool, set: u16) -> bool
-    requires { ⌜ verdict (now words) ≡ result tt ⌝ }
+// How many excluded pairs the listing begins with.
+fn pair_count(words: &[u32]) -> usize
+    ensures { λ r. ⌜ r ≡ pairCount (now (words .entry)) ⌝ }
+{
+    let mut i = 0;
+    while i < words.len() / 4 {
+        if words[i * 4] != layout::EXCLUSION {
+            return i;
+        }
+        i += 1;
+    }
+    i
+}
+
+// The set has no excluded pair of the sound listing, which begins with so many. They are counted once and not for each set
+// (docs/DECISIONS.md, D35).
+fn is_permitted(words: &[u32], pairs: usize, set: u16) -> bool
+    requires { ⌜ SoundWith (now words) pairs ⌝ }
+    ensures { λ r. ⌜ r ≡ permitted (now (words .entry)) set ⌝ }
+{
+    let mut i = 0;
+    while i < pairs {
+        if signals::lies_inside(words[i * 4 + 1], set) {
+            return false;
+        }
+        i += 1;
+    }
+    true
+}
+
+// The set has no excluded pair, and the sound listing gives what is wanted on it.
+fn gives_wanted(words: &[u32], pairs: usize, want: bool, set: u16) -> bool
+    requires { ⌜ SoundWith (now words) pairs ⌝ }
     ensures { λ r. ⌜ r ≡ gives (now (words .entry)) want set ⌝ }
 {
+    if !is_permitted(words, pairs, set) {
+        return false;
+    }
     let yes = rod::reading(words, set);
     if want { yes } else { !yes }
 }
@@ -29,10 +63,11 @@ fn lowest_above(words: &[u32], want: bool) -> Found
     requires { ⌜ verdict (now words) ≡ result tt ⌝ }
     ensures { λ r. ⌜ foundMeaning r ≡ lowestSince 1 (gives (now (words .entry)) want) ⌝ }
 {
+    let pairs = pair_count(words);
     let mut set: u32 = 1;
     while set < SETS {
         let s = set as u16;
-        if gives_wanted(words, want, s) {
+        if gives_wanted(words, pairs, want, s) {
             return Found::At(s);
         }
         set += 1;
@@ -50,7 +85,7 @@ pub enum ChoiceAnswer {
     Declined(layout::Fault),
 }
 
-// Set 0 gives yes or no; the other answer is sought from set 1 on, so that one pass finds both.
+// Set 0 has no pair, and gives yes or no; the other answer is sought from set 1 on, so that one pass finds both.
 fn sound_choice(words: &[u32]) -> ChoiceAnswer
     requires { ⌜ verdict (now words) ≡ result tt ⌝ }
     ensures { λ r. ⌜ choiceMeaning r ≡ choice (now (words .entry)) ⌝ }
@@ -80,11 +115,17 @@ pub fn choice(words: &[u32]) -> ChoiceAnswer
     }
 }
 
-// The two sound listings differ on this set.
-fn differ_on(one: &[u32], two: &[u32], set: u16) -> bool
-    requires { ⌜ (verdict (now one) ≡ result tt) × (verdict (now two) ≡ result tt) ⌝ }
+// The set has no excluded pair of either sound listing, and the two differ on it. `one` begins with `pairs`, `two` with `others`.
+fn differ_on(one: &[u32], pairs: usize, two: &[u32], others: usize, set: u16) -> bool
+    requires { ⌜ SoundWith (now one) pairs × SoundWith (now two) others ⌝ }
     ensures { λ r. ⌜ r ≡ differAt (now (one .entry)) (now (two .entry)) set ⌝ }
 {
+    if !is_permitted(one, pairs, set) {
+        return false;
+    }
+    if !is_permitted(two, others, set) {
+        return false;
+    }
     let a = rod::reading(one, set);
     let b = rod::reading(two, set);
     if a { !b } else { b }
@@ -95,10 +136,12 @@ fn lowest_difference(one: &[u32], two: &[u32]) -> Found
     requires { ⌜ (verdict (now one) ≡ result tt) × (verdict (now two) ≡ result tt) ⌝ }
     ensures { λ r. ⌜ foundMeaning r ≡ lowestSet (differAt (now (one .entry)) (now (two .entry))) ⌝ }
 {
+    let pairs = pair_count(one);
+    let others = pair_count(two);
     let mut set: u32 = 0;
     while set < SETS {
         let s = set as u16;
-        if differ_on(one, two, s) {
+        if differ_on(one, pairs, two, others, s) {
             return Found::At(s);
         }
         set += 1;

@@ -285,7 +285,7 @@ fn run_lines(text: &mut [u8], words: &mut [u32]) {
 fn main() {
     let mut text = [0u8; 131072];
     let n = io::read_full(libc::STDIN_FILENO, &mut text);
-    // Four words more than the largest listing of the cases, which has 205,951 records.
+    // Room for the largest listing of the cases, which has 205,952 records.
     let mut words = [0u32; 823808];
     run_lines(&mut text[..n], &mut words);
 }

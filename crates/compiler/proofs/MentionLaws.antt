@@ -40,10 +40,6 @@ unfolding codeOf joinKind joinOf
 at-most-kind smaller code e = omega arith
 at-most-kind larger code e = omega arith
 
-pub byte-small : (b : Bool) → boolByte b ≤ 1
-byte-small true = omega arith
-byte-small false = omega arith
-
 pub kind-of-bytes : (quiet turned : Bool) → 16 + boolByte quiet + 2 * boolByte turned ≡ policyKind quiet turned
 unfolding policyKind bit
 kind-of-bytes true true = refl

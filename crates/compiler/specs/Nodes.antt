@@ -1,21 +1,22 @@
 -- The records of a condition's nodes one by one, as the code counts and writes them (document 01, "From condition to listing").
 use Prim.Native.Nat.{ℕ, _+_, _<_}
 use mathlib.Core.Bool.{Bool, cond}
-use mathlib.Core.List.{List, [], _∷_}
+use mathlib.Core.List.{List, [], _∷_, map}
 use mathlib.Core.Path.{_≡_}
 use lib.IntN.{ℤ}
 use lib.ListN.{length, getD}
 use Rattle.arith.specs.Trees.{Node, value, joining, postfix}
 use Rattle.layout.specs.Records.{Record, joinKind, policyKind}
 use Rattle.layout.specs.Judgement.{ifAny}
-use Rattle.layout.specs.Nodes.{ListedNode, lineRecords}
+use Rattle.layout.specs.Nodes.{ListedNode, lineRecords, nodeRecords, exclusionRecords}
 use Rattle.peal.specs.Policies.{Policy, MinMax, smaller, Condition, Book, policyAt}
 use Rattle.peal.specs.Lines.{lines}
-use Rattle.peal.specs.Translation.{joinOf, listed, translated}
+use Rattle.peal.specs.Translation.{joinOf, listed, translated, pairMask}
 use Rattle.book.specs.Ranges.{PolicyInRange, ConditionKept}
 use Rattle.book.specs.Codes.{codesOf}
-use Rattle.book.specs.Cells.{PolicyCells}
+use Rattle.book.specs.Cells.{PolicyCells, ForExclusions}
 use Rattle.compiler.specs.Planning.{ThresholdFits}
+use Rattle.compiler.specs.Putting.{putRecords}
 
 -- how many lines a node has: a join has none
 unfoldable pub linesIn : ListedNode → ℕ
@@ -63,3 +64,12 @@ CountsUpTo cells n counts m = (h : ConditionKept cells n) (i : ℕ) → i < m �
 abbrev pub CountsKept : List ℤ → ℕ → List ℕ → Type 0
 CountsKept cells n counts =
     (h : ConditionKept cells n) (i : ℕ) → i < length (codesOf (h .condition .expression)) → getD counts i 0 ≡ linesIn (nodeAt (h .book) (h .condition) i)
+
+-- the records of the exclusions are put into the words, from record 1 on
+abbrev pub ExclusionsPut : List ℤ → (before after : List ℕ) → Type 0
+ExclusionsPut cells before after = ForExclusions cells (λ xs. after ≡ putRecords before 1 (exclusionRecords 1 (map pairMask xs)))
+
+-- the records of the nodes of condition n are put into the words, from record `first` on
+abbrev pub NodesPut : List ℤ → (n first : ℕ) (before after : List ℕ) → Type 0
+NodesPut cells n first before after =
+    (h : ConditionKept cells n) → after ≡ putRecords before first (nodeRecords first (nodesOf (h .book) (h .condition)))

@@ -1,10 +1,12 @@
 // Compiling a condition of a book into lent words, for offices.
 // `compile` is the call, and takes every byte string, condition number and slice. The modules are this crate's own.
+mod exclusions;
 mod nodes;
 mod planning;
 mod searching;
 mod writing;
 
+use exclusions::put_exclusions;
 use nodes::count_records;
 use nodes::put_nodes;
 ghost use mathlib.Core.Path.{_≡_};
@@ -37,7 +39,9 @@ fn compile_condition(cells: &book::Cells, n: usize, words: &mut [u32]) -> Compil
     if words.len() < records * 4 {
         return Compiled::NoRoom;
     }
-    put_nodes(cells, n, &lines, words);
+    let exclusions = book::exclusion_count(cells);
+    put_exclusions(cells, words);
+    put_nodes(cells, n, &lines, words, exclusions + 1);
     Compiled::Records(records)
 }
 
@@ -45,7 +49,7 @@ pub fn compile(bytes: &[u8], condition: u32, words: &mut [u32]) -> Compiled
     ensures { λ r. ⌜ compiledMeaning r ≡ returned (compiled (now (bytes .entry)) condition (length (now (words .entry)))) ⌝ }
     ensures { λ r. ⌜ now (words .exit) ≡ lentAfter (now (words .entry)) (compiled (now (bytes .entry)) condition (length (now (words .entry)))) ⌝ }
 {
-    let mut cells = [0i32; 848];
+    let mut cells = [0i32; book::CELL_COUNT];
     let answer = book::read(bytes, &mut cells);
     match answer {
         book::Checked::Accepted {

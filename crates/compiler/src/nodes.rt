@@ -5,7 +5,7 @@ use crate::searching::put_lines;
 use crate::writing::put_record;
 ghost use mathlib.Core.Bool.{cond};
 ghost use mathlib.Core.Path.{_≡_};
-ghost use Prim.Native.Nat.{_+_, _^_, _<_};
+ghost use Prim.Native.Nat.{_+_, _^_, _≤_, _<_};
 ghost use lib.Dec.{ltb};
 ghost use lib.ListN.{length};
 ghost use Rattle.arith.specs.Trees.{value, joining};
@@ -16,7 +16,7 @@ ghost use Rattle.peal.specs.Translation.{joinOf, turned, listed, listingRecords
 ghost use Rattle.book.specs.Codes.{codeOf, codesOf};
 ghost use Rattle.book.specs.Ranges.{ConditionKept};
 ghost use Rattle.compiler.specs.Putting.{putRecords};
-ghost use Rattle.compiler.specs.Nodes.{linesIn, oneNode, nodeAt, CountsUpTo, CountsKept, LinesKept};
+ghost use Rattle.compiler.specs.Nodes.{linesIn, oneNode, nodeAt, CountsUpTo, CountsKept, LinesKept, NodesPut};
 
 // The kind of a join, from its code.
 fn join_kind(sense: peal::Sense, code: u32) -> u32
@@ -110,13 +110,13 @@ fn next_lines(cells: &book::Cells, n: usize, lines: &[usize; 31], i: usize) -> u
     node_lines(cells, n, i)
 }
 
-// How many records the listing of condition n has; and into `lines`, how many lines each node.
+// How many records the listing of condition n has, those of the exclusions among them; and into `lines`, how many lines each node.
 pub fn count_records(cells: &book::Cells, n: usize, lines: &mut [usize; 31]) -> usize
     requires { ⌜ ConditionKept (now cells) n ⌝ }
     ensures { λ r. ⌜ (r < 2 ^ 31) × ((h : ConditionKept (now (cells .entry)) n) → r ≡ length (listingRecords (h .book) (h .condition))) × CountsKept (now (cells .entry)) n (now (lines .exit)) ⌝ }
 {
     let count = book::length_at(cells, n);
-    let mut records = 0;
+    let mut records = book::exclusion_count(cells);
     let mut i = 0;
     while i < count {
         let next = next_lines(cells, n, lines, i);
@@ -182,13 +182,19 @@ fn put_node(cells: &book::Cells, n: usize, i: usize, count: usize, words: &mut [
     }
 }
 
-// The records of all nodes of condition n, from record 1 on; `lines` has how many lines each of them has.
-pub fn put_nodes(cells: &book::Cells, n: usize, lines: &[usize; 31], words: &mut [u32])
-    requires { ⌜ ConditionKept (now cells) n × CountsKept (now cells) n (now lines) ⌝ }
-    ensures { λ r. ⌜ ((h : ConditionKept (now (cells .entry)) n) → now (words .exit) ≡ putRecords (now (words .entry)) 1 (listingRecords (h .book) (h .condition))) ⌝ }
+// The records of all nodes of condition n, from record `first` on; `lines` has how many lines each of them has.
+pub fn put_nodes(
+    cells: &book::Cells,
+    n: usize,
+    lines: &[usize; 31],
+    words: &mut [u32],
+    first: usize,
+)
+    requires { ⌜ ConditionKept (now cells) n × CountsKept (now cells) n (now lines) × (0 < first) × (first ≤ 17) ⌝ }
+    ensures { λ r. ⌜ NodesPut (now (cells .entry)) n first (now (words .entry)) (now (words .exit)) ⌝ }
 {
     let all = book::length_at(cells, n);
-    let mut at = 1;
+    let mut at = first;
     let mut i = 0;
     while i < all {
         let count = lines[i];

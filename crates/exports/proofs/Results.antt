@@ -1,6 +1,6 @@
 -- How large results are.
 use Prim.Native.Nat.{ℕ, zero, suc, _+_, _≤_, _<_}
-use mathlib.Core.Bool.{Bool, not}
+use mathlib.Core.Bool.{Bool, true, false}
 use mathlib.Core.List.{List}
 use mathlib.Core.Option.{Option, none, some}
 use mathlib.Core.Path.{_≡_, sym, ap, subst}
@@ -9,8 +9,7 @@ use Rattle.answers.specs.Answers.{result}
 use Rattle.answers.proofs.Results.{result-is, gone-on}
 use Rattle.arith.proofs.Options.{Finds, finds-either}
 use Rattle.layout.specs.Judgement.{verdict}
-use Rattle.rod.specs.Reading.{says}
-use Rattle.checks.specs.Checks.{lowestFrom, lowestSince, lowestSet, Choice, always, never, both, choiceOf, choice}
+use Rattle.checks.specs.Checks.{gives, lowestFrom, lowestSince, lowestSet, Choice, always, never, both, choiceOf, choice}
 use Rattle.book.specs.Books.{read, Counts, checked}
 use Rattle.book.proofs.RangeLaws.{read-in-range}
 
@@ -53,4 +52,5 @@ pub choice-below : (ws : List ℕ) (c : Choice) → result c ≡ choice ws → Y
 unfolding choice
 choice-below ws c h =
     let (u, r, e) = gone-on (verdict ws) _ c (sym h) in
-    subst YesBelow (result-is e) (of-lowest (lowestSet (says ws)) (lowestSet (λ set. not (says ws set))) (set-below (says ws)))
+    subst YesBelow (result-is e)
+    (of-lowest (lowestSet (gives ws true)) (lowestSet (gives ws false)) (set-below (gives ws true)))

@@ -115,3 +115,67 @@ sixteen-policies = refl
 seventeen-policies : verdict (policies 1 17 ++ joins 18 16) ≡ refused 10 17
 unfolding layoutComputes
 seventeen-policies = refl
+
+-- ---- excluded pairs
+
+-- one pair with these words, and a policy after it
+abbrev apart : (mask lines next : ℕ) → Answer (Unit {0})
+apart mask lines next = verdict (5 ∷ mask ∷ lines ∷ next ∷ 16 ∷ 1 ∷ 0 ∷ 0 ∷ [])
+
+pair-first : apart 3 0 2 ≡ result tt
+unfolding layoutComputes
+pair-first = refl
+
+-- exactly two signals, of 0 to 15
+one-signal : apart 1 0 2 ≡ refused 10 1
+unfolding layoutComputes
+one-signal = refl
+
+three-signals : apart 7 0 2 ≡ refused 10 1
+unfolding layoutComputes
+three-signals = refl
+
+signal-sixteen : apart 65537 0 2 ≡ refused 10 1
+unfolding layoutComputes
+signal-sixteen = refl
+
+-- its lines and next
+pair-lines : apart 3 2 2 ≡ refused 10 1
+unfolding layoutComputes
+pair-lines = refl
+
+pair-next : apart 3 0 3 ≡ refused 10 1
+unfolding layoutComputes
+pair-next = refl
+
+-- a pair is the last record
+pair-last : verdict (5 ∷ 3 ∷ 0 ∷ 2 ∷ 5 ∷ 6 ∷ 0 ∷ 0 ∷ []) ≡ refused 10 2
+unfolding layoutComputes
+pair-last = refl
+
+-- a repeated pair is sound
+pair-twice : verdict (5 ∷ 3 ∷ 0 ∷ 2 ∷ 5 ∷ 3 ∷ 0 ∷ 3 ∷ 16 ∷ 1 ∷ 0 ∷ 0 ∷ []) ≡ result tt
+unfolding layoutComputes
+pair-twice = refl
+
+-- after a policy, whose next is right, the pair breaks the layout itself; so does a line after a pair
+pair-after-policy : verdict (16 ∷ 1 ∷ 0 ∷ 2 ∷ 5 ∷ 3 ∷ 0 ∷ 3 ∷ 16 ∷ 1 ∷ 0 ∷ 0 ∷ []) ≡ refused 10 2
+unfolding layoutComputes
+pair-after-policy = refl
+
+line-after-pair : verdict (5 ∷ 3 ∷ 0 ∷ 2 ∷ 4 ∷ 0 ∷ 0 ∷ 0 ∷ []) ≡ refused 10 2
+unfolding layoutComputes
+line-after-pair = refl
+
+-- sixteen pairs are sound; a seventeenth breaks the layout
+abbrev pairs : ℕ → ℕ → List ℕ
+pairs n ℕ.zero = 16 ∷ 1 ∷ 0 ∷ 0 ∷ []
+pairs n (ℕ.suc k) = 5 ∷ 3 ∷ 0 ∷ ℕ.suc n ∷ pairs (ℕ.suc n) k
+
+sixteen-pairs : verdict (pairs 1 16) ≡ result tt
+unfolding layoutComputes
+sixteen-pairs = refl
+
+seventeen-pairs : verdict (pairs 1 17) ≡ refused 10 17
+unfolding layoutComputes
+seventeen-pairs = refl

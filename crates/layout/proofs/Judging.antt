@@ -1,17 +1,23 @@
 -- The judgement, a step at a time: what the code's parts say together is a step, and what a step says of the judgement.
-use Prim.Native.Nat.{ℕ, _+_, _-_, _/_, _%_, _≤_, _<_}
-use mathlib.Core.Bool.{Bool, true, false, cond}
-use mathlib.Core.List.{List}
+use Prim.Native.Nat.{ℕ, suc, _+_, _/_, _%_, _≤_, _<_}
+use mathlib.Core.Bool.{Bool, true, false, cond, and-false}
+use mathlib.Core.List.{List, [], _∷_}
 use mathlib.Core.Option.{Option, none, some}
 use mathlib.Core.Path.{_≡_, refl, sym, ap, subst, _∙_}
 use native.Mathlib.Omega.{arith}
 use lib.ListN.{length}
-use borrow.Author.Tests.{eq-eqb, ne-eqb}
+use borrow.Author.Tests.{eq-eqb, ne-eqb, le-leb}
 use Rattle.answers.specs.Answers.{result, refused, require}
-use Rattle.layout.specs.Records.{Record, Join, Kind, policy, line, join, unknown, kindOf, kinds}
+use Rattle.layout.specs.Records.{Record, Join, Kind, policy, line, join, exclusion, unknown, kindOf, kinds}
 use Rattle.layout.specs.Judgement.{ifAny, ifLine, nextNode, SoFar, noRecord, keepsLayout, soFarAfter, judged, lengthSound, verdict}
-use Rattle.layout.specs.Steps.{recordAt, recordsFrom, policyStep, lineStep, joinStep, stepOf, stepAt}
+use Rattle.layout.specs.Steps.{recordAt, recordsFrom, policyStep, lineStep, joinStep, exclusionStep, stepOf, stepAt}
 use Rattle.layout.proofs.Places.{from-cons, from-nil}
+
+-- a record follows where the number of the next one is not 0
+exclusion-after : (n : ℕ) (r : Record) (so : SoFar) (after : List Kind) → exclusionStep n r so (ifAny after (n + 1)) ≡ stepOf n so exclusion r after
+unfolding exclusionStep stepOf keepsLayout soFarAfter ifAny
+exclusion-after n r so [] = rw (and-false, and-false) refl
+exclusion-after n r so (k ∷ ks) = rw (le-leb 1 (n + 1) (omega arith), le-leb 1 (suc (length ks)) (omega arith)) refl
 
 -- the parts together
 module _ (ws : List ℕ) (i : ℕ) (so : SoFar) (r : Record) (s : Option SoFar) (k : Kind) (er : r ≡ recordAt ws i) (ek : k ≡ kindOf (r .kind)) where
@@ -33,6 +39,9 @@ module _ (ws : List ℕ) (i : ℕ) (so : SoFar) (r : Record) (s : Option SoFar) 
       → y ≡ nextNode (i + 1 + 1) (kinds (recordsFrom ws (i + 1))) → s ≡ policyStep r so x y → s ≡ stepAt ws i so
   unfolding stepOf policyStep keepsLayout soFarAfter
   step-policy q t e x y ex ey h = step-by (rw (e, ← ex, ← ey) h)
+
+  pub step-exclusion : k ≡ exclusion → (x : ℕ) → x ≡ ifAny (kinds (recordsFrom ws (i + 1))) (i + 1 + 1) → s ≡ exclusionStep (i + 1) r so x → s ≡ stepAt ws i so
+  step-exclusion e x ex h = step-by (rw e (h ∙ ap (exclusionStep (i + 1) r so) ex ∙ exclusion-after (i + 1) r so (kinds (recordsFrom ws (i + 1)))))
 
   pub step-unknown : k ≡ unknown → s ≡ none → s ≡ stepAt ws i so
   unfolding stepOf keepsLayout
@@ -105,4 +114,5 @@ step-values ws i so next h e = subst (λ (x : SoFar). x .values ≤ x .policies)
     few line = h
     few (policy q t) = omega arith
     few (join j) = omega arith
+    few exclusion = h
     few unknown = h

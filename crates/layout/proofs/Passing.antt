@@ -7,7 +7,7 @@ use mathlib.Core.Path.{_≡_, refl, sym, ap, _∙_}
 use native.Mathlib.Omega.{arith}
 use lib.ListN.{length, getD}
 use Rattle.signals.specs.Sets.{isSet, inside}
-use Rattle.layout.specs.Records.{Record, and, or, Kind, policy, line, unknown, lineKind, joinKind, kindOf, kinds}
+use Rattle.layout.specs.Records.{Record, and, or, Kind, policy, line, exclusion, unknown, lineKind, joinKind, exclusionKind, kindOf, kinds}
 use Rattle.layout.specs.Judgement.{ifLine, SoFar, insidePolicy, keepsLayout, soFarAfter}
 use Rattle.layout.specs.Steps.{recordAt, recordsFrom, stepOf, stepAt, PassedOver, AfterLines}
 use Rattle.layout.proofs.Soundness.{kind-line}
@@ -26,7 +26,7 @@ line-passed ws i mask r x er ex k l n m = (
 
 -- a step over a kind from 16 on is one over a policy
 step-mask : (ws : List ℕ) (i : ℕ) (so next : SoFar) → 16 ≤ getD ws (i * 4) 0 → some next ≡ stepAt ws i so → next .policyMask ≡ some (getD ws (i * 4 + 1) 0)
-unfolding stepAt stepOf keepsLayout soFarAfter lineKind joinKind
+unfolding stepAt stepOf keepsLayout soFarAfter lineKind joinKind exclusionKind
 step-mask ws i so next h e = go (kindOf (getD ws (i * 4) 0)) (numbered (getD ws (i * 4) 0)) e
   where
     go : (k : Kind) → Numbered k (getD ws (i * 4) 0) → some next ≡ stepOf (i + 1) so k (recordAt ws i) (kinds (recordsFrom ws (i + 1)))
@@ -35,6 +35,7 @@ step-mask ws i so next h e = go (kindOf (getD ws (i * 4) 0)) (numbered (getD ws 
     go line n e = absurd (omega (arith, n))
     go (Kind.join and) n e = absurd (omega (arith, n))
     go (Kind.join or) n e = absurd (omega (arith, n))
+    go exclusion n e = absurd (omega (arith, n))
     go unknown n e = let z : _≡_ {A = ℕ} 0 1 = cc in absurd (omega arith)
 
 pub after-none : (ws : List ℕ) (i : ℕ) → AfterLines ws i (i + 1)

@@ -5,7 +5,7 @@ use mathlib.Core.List.{List, [], _∷_}
 use mathlib.Core.Path.{_≡_, refl, ap, ap₂, _∙_}
 use native.Mathlib.Omega.{arith}
 use lib.ListN.{length, getD, drop}
-use Rattle.layout.specs.Records.{Record, records, Kind, policy, line, unknown, lineKind, kindOf, isLine, kinds}
+use Rattle.layout.specs.Records.{Record, records, Kind, policy, line, exclusion, unknown, lineKind, kindOf, isLine, kinds}
 use Rattle.layout.specs.Judgement.{ifAny, ifLine, nextNode}
 use Rattle.layout.specs.Steps.{recordAt, recordsFrom}
 use Rattle.layout.proofs.Soundness.{kind-line}
@@ -55,6 +55,7 @@ is-not-line k h = go (kindOf k) (numbered k)
     go line e = absurd (h e)
     go (policy q t) e = refl
     go (Kind.join j) e = refl
+    go exclusion e = refl
     go unknown e = refl
 
 module _ (ws : List ℕ) (i n : ℕ) (h : i < length ws / 4) where

@@ -7,7 +7,7 @@ use native.Mathlib.Nat.{add-zero, zero-add, suc-add}
 use native.Mathlib.Omega.{arith}
 use lib.ListN.{length, getD, drop, length-drop}
 use Rattle.answers.specs.Answers.{result}
-use Rattle.layout.specs.Records.{Record, records, Kind, policy, line, unknown, kindOf, isLine, kinds}
+use Rattle.layout.specs.Records.{Record, records, Kind, policy, line, exclusion, unknown, kindOf, isLine, kinds}
 use Rattle.layout.specs.Judgement.{ifAny, nextNode, SoFar, soFarAfter, judged}
 use Rattle.layout.specs.Nodes.{leadingLines, nodeThen, nodes}
 use Rattle.layout.specs.Steps.{recordsFrom}
@@ -49,6 +49,7 @@ behind-nodes (r ∷ rest) = go (kindOf (r .kind)) refl (behind-nodes rest)
     go line e ih = ih
     go (policy q t) e ih = rw e refl
     go (Kind.join j) e ih = rw e refl
+    go exclusion e ih = rw e refl
     go unknown e ih = rw e refl
 
 -- the next node is the first of them
@@ -74,6 +75,7 @@ behind-judged n so (r ∷ rest) h = go (kindOf (r .kind)) (sound-step n so r res
     go line s ih = subst (λ (m : ℕ). judged m so (behindLines rest) ≡ result tt) (omega arith) (ih s)
     go (policy q t) s ih = rw add-zero h
     go (Kind.join j) s ih = rw add-zero h
+    go exclusion s ih = rw add-zero h
     go unknown s ih = rw add-zero h
 
 -- ---- by index

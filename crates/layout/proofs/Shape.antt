@@ -1,8 +1,9 @@
--- A sound listing is the listing of its nodes, and those are well-formed.
-use Prim.Native.Nat.{ℕ, _+_, _-_, _%_, _≤_}
+-- A sound listing is the listing of its excluded pairs and its nodes, and those are well-formed.
+use Prim.Native.Nat.{ℕ, _+_, _-_, _%_, _≤_, _<_}
 use mathlib.Core.Bool.{Bool, true, false, not, cond, _&&_, false≢true}
 use mathlib.Core.List.{List, [], _∷_, _++_, append-assoc, append-nil}
 use mathlib.Core.Option.{none, some}
+use mathlib.Core.Logic.{_⊎_, inl, inr, ⊎-elim}
 use mathlib.Core.Path.{_≡_, refl, sym, ap, ap₂, subst, _∙_}
 use native.Mathlib.Nat.{add-zero}
 use native.Mathlib.Omega.{arith}
@@ -12,11 +13,11 @@ use borrow.Author.Tests.{eqb-true, leb-true}
 use Rattle.answers.specs.Answers.{Answer, result, require}
 use Rattle.arith.specs.Trees.{leaf, join, value, joining, postfix}
 use Rattle.arith.proofs.Tests.{and-left, and-right}
-use Rattle.signals.specs.Sets.{isSet, inside}
-use Rattle.layout.specs.Records.{Record, records, words, Join, and, or, Kind, policy, line, unknown, lineKind, joinKind, policyKind, kindOf, isLine, kinds}
+use Rattle.signals.specs.Sets.{isSet, inside, isPair}
+use Rattle.layout.specs.Records.{Record, records, words, Join, and, or, Kind, policy, line, exclusion, unknown, lineKind, joinKind, exclusionKind, policyKind, kindOf, isLine, kinds}
 use Rattle.layout.specs.Judgement.{ifAny, ifLine, nextNode, SoFar, noRecord, insidePolicy, keepsLayout, soFarAfter, judged, lengthSound, verdict}
-use Rattle.layout.specs.Nodes.{ListedNode, ListedTree, lineRecords, nodeRecords, listing, leadingLines, nodeThen, nodes}
-use Rattle.layout.specs.WellFormed.{LinesFit, TreeFits, policyCount, WellFormed}
+use Rattle.layout.specs.Nodes.{ListedNode, ListedTree, lineRecords, nodeRecords, exclusionRecords, listing, leadingLines, nodeThen, nodes, pairThen, excluded}
+use Rattle.layout.specs.WellFormed.{LinesFit, TreeFits, policyCount, ArePairs, PairsFit, WellFormed}
 use Rattle.layout.proofs.Soundness.{no-line, any-nodes, next-nodes, line-lines, next-lines}
 
 -- ---- what a test that holds says
@@ -54,12 +55,41 @@ module _ (n : ℕ) (so : SoFar) (r : Record) (after : List Kind) where
       let ab = and-left (a && b) c abc in
       (eqb-true _ _ (and-left a b ab), eqb-true _ _ (and-right a b ab), eqb-true _ _ (and-right (a && b) c abc), leb-true _ _ (and-right (a && b && c) (leb 2 (so .values)) e))
 
+  pub kept-exclusion : keepsLayout n so exclusion r after ≡ true
+      → (so .policies ≡ 0) × (n ≤ 16) × (isPair (r .mask) ≡ true) × (r .lines ≡ 0) × (r .next ≡ n + 1) × (1 ≤ length after)
+  unfolding keepsLayout
+  kept-exclusion e =
+      let a = eqb (so .policies) 0 in
+      let b = leb n 16 in
+      let c = isPair (r .mask) in
+      let d = eqb (r .lines) 0 in
+      let f = eqb (r .next) (n + 1) in
+      let g = leb 1 (length after) in
+      let abcdf = and-left (a && b && c && d && f) g e in
+      let abcd = and-left (a && b && c && d) f abcdf in
+      let abc = and-left (a && b && c) d abcd in
+      let ab = and-left (a && b) c abc in (
+        eqb-true _ _ (and-left a b ab),
+        leb-true _ _ (and-right a b ab),
+        and-right (a && b) c abc,
+        eqb-true _ _ (and-right (a && b && c) d abcd),
+        eqb-true _ _ (and-right (a && b && c && d) f abcdf),
+        leb-true _ _ (and-right (a && b && c && d && f) g e),
+      )
+
+-- where a record follows, it has a number
+pub some-after : (ks : List Kind) (k : ℕ) → 1 ≤ length ks → ifAny ks k ≡ k
+unfolding ifAny
+some-after [] k h = absurd (omega arith)
+some-after (x ∷ ks) k h = refl
+
 -- ---- what a kind says of its number
 
 abbrev pub Numbered : Kind → ℕ → Type 0
 Numbered line k = k ≡ lineKind
 Numbered (policy q t) k = k ≡ policyKind q t
 Numbered (Kind.join j) k = k ≡ joinKind j
+Numbered exclusion k = k ≡ exclusionKind
 Numbered unknown k = Unit {0}
 
 pick : (P : Kind → Type 0) (k a : ℕ) (x y : Kind) → (k ≡ a → P x) → P y → P (cond (eqb k a) x y)
@@ -79,7 +109,8 @@ numbered k =
     (pick (λ x. Numbered x k) k (policyKind true false) _ _ (λ e. e)
     (pick (λ x. Numbered x k) k (policyKind false true) _ _ (λ e. e)
     (pick (λ x. Numbered x k) k (policyKind true true) _ _ (λ e. e)
-    tt))))))
+    (pick (λ x. Numbered x k) k exclusionKind _ _ (λ e. e)
+    tt)))))))
 
 -- ---- a judgement that ends in sound
 
@@ -104,19 +135,46 @@ no-owner n so (r ∷ rest) o h = go (kindOf (r .kind)) (sound-step n so r rest h
     go line e = absurd (false≢true (rw o at e))
     go (policy q t) e = refl
     go (Kind.join j) e = refl
+    go exclusion e = refl
     go unknown e = refl
 
 pub same-record : (r : Record) (k m l n : ℕ) → r .kind ≡ k → r .mask ≡ m → r .lines ≡ l → r .next ≡ n → r ≡ record { kind = k; mask = m; lines = l; next = n }
 same-record r k m l n p q s t = λ i. record { kind = p i; mask = q i; lines = s i; next = t i }
 
+-- no exclusion stands here: a policy stands above, or no node does, and these records begin with no exclusion
+abbrev BelowPairs : SoFar → List Record → Type 0
+BelowPairs so rs = (0 < so .policies) ⊎ ((so .policyMask ≡ none) × (so .values ≡ 0) × (excluded rs ≡ []))
+
+module _ (n : ℕ) (so : SoFar) (r : Record) (rest : List Record) (top : BelowPairs so (r ∷ rest)) where
+  no-pair : kindOf (r .kind) ≡ exclusion → keepsLayout (n + 1) so exclusion r (kinds rest) ≡ true → ⊥
+  unfolding excluded pairThen
+  no-pair k e =
+      ⊎-elim
+      (λ p. omega (arith, p, kept-exclusion (n + 1) so r (kinds rest) e .0))
+      (λ t. let z : _≡_ {A = List ℕ} (r .mask ∷ excluded rest) [] = rw k at (t .2) in let y : _≡_ {A = ℕ} 0 1 = cc in omega arith)
+      top
+
+  -- below the first node there is a policy
+  below-more : keepsLayout (n + 1) so (kindOf (r .kind)) r (kinds rest) ≡ true → BelowPairs (soFarAfter so (kindOf (r .kind)) r) rest
+  unfolding soFarAfter keepsLayout insidePolicy
+  below-more e = go (kindOf (r .kind)) refl e
+    where
+      go : (k : Kind) → kindOf (r .kind) ≡ k → keepsLayout (n + 1) so k r (kinds rest) ≡ true → BelowPairs (soFarAfter so k r) rest
+      go (policy q t) o e = inl (omega arith)
+      go line o e = ⊎-elim (λ p. inl p) (λ t. absurd (false≢true (rw (t .0) at (kept-line (n + 1) so r (kinds rest) e .0)))) top
+      go (Kind.join j) o e = ⊎-elim (λ p. inl p) (λ t. absurd (omega (arith, kept-join (n + 1) so r (kinds rest) j e .3, t .1))) top
+      go exclusion o e = absurd (no-pair o e)
+      go unknown o e = absurd (false≢true e)
+
 -- the records from number n + 1 on are those of the lines that they begin with and of their nodes
-sound-records : (n : ℕ) (so : SoFar) (rs : List Record) → judged n so rs ≡ result tt
+sound-records : (n : ℕ) (so : SoFar) (rs : List Record) → BelowPairs so rs → judged n so rs ≡ result tt
     → rs ≡ lineRecords (n + 1) (leadingLines rs) ++ nodeRecords (n + 1 + length (leadingLines rs)) (nodes rs)
 unfolding leadingLines isLine nodes nodeThen keepsLayout soFarAfter lineRecords nodeRecords
-sound-records n so [] h = refl
-sound-records n so (r ∷ rest) h =
-    go (kindOf (r .kind)) (numbered (r .kind)) (sound-step n so r rest h .0) (sound-step n so r rest h .1)
-    (sound-records (n + 1) (soFarAfter so (kindOf (r .kind)) r) rest (sound-step n so r rest h .1))
+sound-records n so [] top h = refl
+sound-records n so (r ∷ rest) top h =
+    go (kindOf (r .kind)) refl (numbered (r .kind)) (sound-step n so r rest h .0) (sound-step n so r rest h .1)
+    (sound-records (n + 1) (soFarAfter so (kindOf (r .kind)) r) rest
+    (below-more n so r rest top (sound-step n so r rest h .0)) (sound-step n so r rest h .1))
   where
     ls : List ℕ
     ls = leadingLines rest
@@ -130,17 +188,18 @@ sound-records n so (r ∷ rest) h =
     first : Rest → (k : ℕ) → ifLine (kinds rest) k ≡ ifAny ls k
     first ih k = ap (λ (x : List Record). ifLine (kinds x) k) ih ∙ line-lines (n + 1 + 1) k ls (nodeRecords m (nodes rest)) (no-line m k (nodes rest))
 
-    go : (k : Kind) → Numbered k (r .kind) → keepsLayout (n + 1) so k r (kinds rest) ≡ true → judged (n + 1) (soFarAfter so k r) rest ≡ result tt → Rest
+    go : (k : Kind) → kindOf (r .kind) ≡ k → Numbered k (r .kind) → keepsLayout (n + 1) so k r (kinds rest) ≡ true → judged (n + 1) (soFarAfter so k r) rest ≡ result tt → Rest
         → r ∷ rest
         ≡ lineRecords (n + 1) (cond (isLine k) (r .mask ∷ ls) [])
         ++ nodeRecords (n + 1 + length (cond (isLine k) (r .mask ∷ ls) [])) (nodeThen k (r .mask) ls (nodes rest))
-    go unknown w e s ih = absurd (false≢true e)
-    go line w e s ih =
+    go unknown o w e s ih = absurd (false≢true e)
+    go exclusion o w e s ih = absurd (no-pair n so r rest top o e)
+    go line o w e s ih =
         let t = kept-line (n + 1) so r (kinds rest) e in
         ap₂ {C = List Record} (λ x y. x ∷ y)
         (same-record r lineKind (r .mask) 0 (ifAny ls (n + 1 + 1)) w refl (t .1) (t .2 ∙ first ih (n + 1 + 1)))
         (ih ∙ ap (λ (i : ℕ). lineRecords (n + 1 + 1) ls ++ nodeRecords i (nodes rest)) (omega arith))
-    go (policy q u) w e s ih =
+    go (policy q u) o w e s ih =
         let t = kept-policy (n + 1) so r (kinds rest) q u e in
         rw add-zero
         (ap₂ {C = List Record} (λ x y. x ∷ y)
@@ -148,7 +207,7 @@ sound-records n so (r ∷ rest) h =
         (t .2 ∙ ap (λ (x : List Record). nextNode (n + 1 + 1) (kinds x)) ih
         ∙ next-lines (n + 1 + 1) (n + 1 + 1) ls (nodeRecords m (nodes rest)) ∙ next-nodes m m (nodes rest)))
         ih)
-    go (Kind.join j) w e s ih =
+    go (Kind.join j) f w e s ih =
         let t = kept-join (n + 1) so r (kinds rest) j e in
         let o : leadingLines rest ≡ [] = no-owner (n + 1) _ rest refl s in
         let ih′ : rest ≡ nodeRecords (n + 1 + 1) (nodes rest) =
@@ -159,6 +218,53 @@ sound-records n so (r ∷ rest) h =
         (same-record r (joinKind j) 0 0 (ifAny (nodes rest) (n + 1 + 1)) w (t .0) (t .1)
         (t .2 ∙ ap (λ (x : List Record). ifAny (kinds x) (n + 1 + 1)) ih′ ∙ any-nodes (n + 1 + 1) (n + 1 + 1) (nodes rest)))
         ih′)
+
+-- the records of a listing are those of the exclusions that they begin with and of their nodes
+listing-records : (n : ℕ) (rs : List Record) → judged n noRecord rs ≡ result tt
+    → rs ≡ exclusionRecords (n + 1) (excluded rs) ++ nodeRecords (n + 1 + length (excluded rs)) (nodes rs)
+unfolding excluded pairThen nodes nodeThen exclusionRecords lineRecords nodeRecords soFarAfter noRecord keepsLayout
+listing-records n [] h = refl
+listing-records n (r ∷ rest) h =
+    go (kindOf (r .kind)) refl (numbered (r .kind)) (sound-step n noRecord r rest h .0) (sound-step n noRecord r rest h .1) (λ s. listing-records (n + 1) rest s)
+  where
+    -- the first record is no exclusion
+    other : excluded (r ∷ rest) ≡ [] → r ∷ rest ≡ nodeRecords (n + 1 + 0) (nodes (r ∷ rest))
+    other e =
+        let o : leadingLines (r ∷ rest) ≡ [] = no-owner n noRecord (r ∷ rest) refl h in
+        subst (λ (x : List ℕ). r ∷ rest ≡ lineRecords (n + 1) x ++ nodeRecords (n + 1 + length x) (nodes (r ∷ rest))) o
+        (sound-records n noRecord (r ∷ rest) (inr (refl, refl, e)) h)
+
+    go : (k : Kind) → kindOf (r .kind) ≡ k → Numbered k (r .kind) → keepsLayout (n + 1) noRecord k r (kinds rest) ≡ true → judged (n + 1) (soFarAfter noRecord k r) rest ≡ result tt
+        → (judged (n + 1) noRecord rest ≡ result tt → rest ≡ exclusionRecords (n + 1 + 1) (excluded rest) ++ nodeRecords (n + 1 + 1 + length (excluded rest)) (nodes rest))
+        → r ∷ rest ≡ exclusionRecords (n + 1) (pairThen k (r .mask) (excluded rest)) ++ nodeRecords (n + 1 + length (pairThen k (r .mask) (excluded rest))) (nodeThen k (r .mask) (leadingLines rest) (nodes rest))
+    go exclusion o w e s ih =
+        let t = kept-exclusion (n + 1) noRecord r (kinds rest) e in
+        ap₂ {C = List Record} (λ x y. x ∷ y)
+        (same-record r exclusionKind (r .mask) 0 (n + 1 + 1) w refl (t .3) (t .4))
+        (ih s ∙ ap (λ (i : ℕ). exclusionRecords (n + 1 + 1) (excluded rest) ++ nodeRecords i (nodes rest)) (omega arith))
+    go (policy q u) o w e s ih = subst (λ (k : Kind). r ∷ rest ≡ nodeRecords (n + 1 + 0) (nodeThen k (r .mask) (leadingLines rest) (nodes rest))) o (other (rw o refl))
+    go line o w e s ih = subst (λ (k : Kind). r ∷ rest ≡ nodeRecords (n + 1 + 0) (nodeThen k (r .mask) (leadingLines rest) (nodes rest))) o (other (rw o refl))
+    go (Kind.join j) o w e s ih = subst (λ (k : Kind). r ∷ rest ≡ nodeRecords (n + 1 + 0) (nodeThen k (r .mask) (leadingLines rest) (nodes rest))) o (other (rw o refl))
+    go unknown o w e s ih = absurd (false≢true e)
+
+-- the exclusions of a judgement that ends in sound are pairs, at most 16 with the n above
+sound-pairs : (n : ℕ) (rs : List Record) → n ≤ 16 → judged n noRecord rs ≡ result tt → ArePairs (excluded rs) × (n + length (excluded rs) ≤ 16)
+unfolding excluded pairThen soFarAfter noRecord
+sound-pairs n [] few h = (tt, omega arith)
+sound-pairs n (r ∷ rest) few h =
+    go (kindOf (r .kind)) (sound-step n noRecord r rest h .0) (sound-step n noRecord r rest h .1) (λ few s. sound-pairs (n + 1) rest few s)
+  where
+    go : (k : Kind) → keepsLayout (n + 1) noRecord k r (kinds rest) ≡ true → judged (n + 1) (soFarAfter noRecord k r) rest ≡ result tt
+        → (n + 1 ≤ 16 → judged (n + 1) noRecord rest ≡ result tt → ArePairs (excluded rest) × (n + 1 + length (excluded rest) ≤ 16))
+        → ArePairs (pairThen k (r .mask) (excluded rest)) × (n + length (pairThen k (r .mask) (excluded rest)) ≤ 16)
+    go exclusion e s ih =
+        let t = kept-exclusion (n + 1) noRecord r (kinds rest) e in
+        let i = ih (t .1) s in
+        ((t .2, i .0), omega (arith, i .1))
+    go (policy q u) e s ih = (tt, omega arith)
+    go line e s ih = (tt, omega arith)
+    go (Kind.join j) e s ih = (tt, omega arith)
+    go unknown e s ih = (tt, omega arith)
 
 words-records : (ws : List ℕ) → length ws % 4 ≡ 0 → words (records ws) ≡ ws
 unfolding words records
@@ -175,14 +281,14 @@ sound-judged ws h =
     let s = required _ 9 0 _ tt h in
     (eqb-true _ _ (and-right (not (eqb (length ws) 0)) (eqb (length ws % 4) 0) (s .0)), s .1)
 
--- a sound listing is the listing of its nodes
-pub sound-listing : (ws : List ℕ) → verdict ws ≡ result tt → ws ≡ words (listing (nodes (records ws)))
-unfolding listing noRecord lineRecords
-sound-listing ws h =
-    let w = sound-judged ws h in
-    let o : leadingLines (records ws) ≡ [] = no-owner 0 noRecord (records ws) refl (w .1) in
-    sym (words-records ws (w .0))
-    ∙ ap words (subst (λ (x : List ℕ). records ws ≡ lineRecords 1 x ++ nodeRecords (1 + length x) (nodes (records ws))) o (sound-records 0 noRecord (records ws) (w .1)))
+-- a sound listing is the listing of its exclusions and its nodes
+pub sound-listing : (ws : List ℕ) → verdict ws ≡ result tt → ws ≡ words (listing (excluded (records ws)) (nodes (records ws)))
+unfolding listing
+sound-listing ws h = let w = sound-judged ws h in sym (words-records ws (w .0)) ∙ ap words (listing-records 0 (records ws) (w .1))
+
+-- its exclusions are at most 16 pairs
+pub sound-exclusions : (ws : List ℕ) → verdict ws ≡ result tt → PairsFit (excluded (records ws))
+sound-exclusions ws h = let p = sound-pairs 0 (records ws) (omega arith) (sound-judged ws h .1) in (p .0, omega (arith, p .1))
 
 -- the lines after a policy lie inside its mask
 pub lines-fit : (n m : ℕ) (so : SoFar) (rs : List Record) → so .policyMask ≡ some m → judged n so rs ≡ result tt → LinesFit m (leadingLines rs)
@@ -198,6 +304,7 @@ lines-fit n m so (r ∷ rest) o h = go (kindOf (r .kind)) (sound-step n so r res
         (leb-true _ _ (and-left (leb (r .mask) 65535) (inside (r .mask) m) t), and-right (leb (r .mask) 65535) (inside (r .mask) m) t, ih so o s)
     go (policy q u) e s ih = tt
     go (Kind.join j) e s ih = tt
+    go exclusion e s ih = tt
     go unknown e s ih = tt
 
 -- the nodes of a judgement that ends in sound are well-formed
@@ -214,6 +321,7 @@ sound-well-formed n so (r ∷ rest) h = go (kindOf (r .kind)) (sound-step n so r
         let t = kept-policy (n + 1) so r (kinds rest) q u e in
         (record { maskFits = t .0; linesFit = lines-fit (n + 1) (r .mask) _ rest refl s }, t .3, ih _ s)
     go (Kind.join j) e s ih = (kept-join (n + 1) so r (kinds rest) j e .3, ih _ s)
+    go exclusion e s ih = ih _ s
     go unknown e s ih = ih so s
 
 -- ---- trees

@@ -11,10 +11,10 @@ use borrow.Author.Tests.{eq-eqb, ne-eqb, le-leb}
 use Rattle.answers.specs.Answers.{result}
 use Rattle.arith.specs.Trees.{leaf, join, value, joining, postfix}
 use Rattle.signals.specs.Sets.{isSet, inside}
-use Rattle.layout.specs.Records.{Record, records, words, Join, and, or, Kind, policy, line, bit, lineKind, joinKind, policyKind, kindOf, isLine, kinds}
+use Rattle.layout.specs.Records.{Record, records, words, Join, and, or, Kind, policy, line, exclusion, bit, lineKind, joinKind, exclusionKind, policyKind, kindOf, isLine, kinds}
 use Rattle.layout.specs.Judgement.{ifAny, ifLine, nextNode, SoFar, noRecord, insidePolicy, keepsLayout, soFarAfter, judged, lengthSound, verdict}
-use Rattle.layout.specs.Nodes.{ListedNode, ListedTree, lineRecords, nodeRecords, listing, leadingLines, nodeThen, nodes}
-use Rattle.layout.specs.WellFormed.{LinesFit, TreeFits, policyCount, WellFormed}
+use Rattle.layout.specs.Nodes.{ListedNode, ListedTree, lineRecords, nodeRecords, exclusionRecords, listing, leadingLines, nodeThen, nodes, pairThen, excluded}
+use Rattle.layout.specs.WellFormed.{LinesFit, TreeFits, policyCount, ArePairs, PairsFit, WellFormed}
 
 -- ---- kinds and tests
 
@@ -33,6 +33,10 @@ pub kind-join : (j : Join) → kindOf (joinKind j) ≡ Kind.join j
 unfolding kindOf lineKind joinKind
 kind-join and = refl
 kind-join or = refl
+
+pub kind-exclusion : kindOf exclusionKind ≡ exclusion
+unfolding kindOf lineKind joinKind policyKind bit exclusionKind
+kind-exclusion = refl
 
 judged-step : (n : ℕ) (so : SoFar) (r : Record) (rest : List Record) (k : Kind) → kindOf (r .kind) ≡ k
     → keepsLayout (n + 1) so k r (kinds rest) ≡ true → judged n so (r ∷ rest) ≡ judged (n + 1) (soFarAfter so k r) rest
@@ -129,6 +133,25 @@ judged-nodes n o v p (value q ∷ ns) h =
     ∙ ap (λ (i : ℕ). judged (n + 1 + length (q .lines)) (record { policyMask = some (q .mask); values = v + 1; policies = p + 1 }) (nodeRecords i ns)) (omega arith)
     ∙ judged-nodes (n + 1 + length (q .lines)) (some (q .mask)) (v + 1) (p + 1) ns (h .2)
 
+-- a record follows
+follows : (m : ℕ) (pairs : List ℕ) (r : Record) (rest : List Record) → 1 ≤ length (kinds (exclusionRecords m pairs ++ (r ∷ rest)))
+unfolding kinds exclusionRecords
+follows m [] r rest = omega arith
+follows m (pair ∷ pairs) r rest = omega arith
+
+-- exclusions above some records are found sound
+judged-exclusions : (n : ℕ) (pairs : List ℕ) (r : Record) (rest : List Record) → ArePairs pairs → n + length pairs ≤ 16
+    → judged n noRecord (exclusionRecords (n + 1) pairs ++ (r ∷ rest)) ≡ judged (n + length pairs) noRecord (r ∷ rest)
+unfolding exclusionRecords keepsLayout soFarAfter noRecord
+judged-exclusions n [] r rest g few = rw add-zero refl
+judged-exclusions n (pair ∷ pairs) r rest g few =
+    let e : Record = record { kind = exclusionKind; mask = pair; lines = 0; next = n + 1 + 1 } in
+    let after : List Record = exclusionRecords (n + 1 + 1) pairs ++ (r ∷ rest) in
+    judged-step n noRecord e after exclusion kind-exclusion
+    (rw (le-leb (n + 1) 16 (omega arith), g .0, eq-eqb (n + 1 + 1) (n + 1 + 1) refl, le-leb 1 _ (follows (n + 1 + 1) pairs r rest)) refl)
+    ∙ judged-exclusions (n + 1) pairs r rest (g .1) (omega arith)
+    ∙ ap (λ (i : ℕ). judged i noRecord (r ∷ rest)) (omega arith)
+
 -- ---- from records to words and back
 
 pub records-words : (rs : List Record) → records (words rs) ≡ rs
@@ -147,12 +170,26 @@ words-whole r rs =
     let h : length (words (r ∷ rs)) ≡ 4 * suc (length rs) = length-words (r ∷ rs) in
     rw (ne-eqb (length (words (r ∷ rs))) 0 (omega arith), eq-eqb (length (words (r ∷ rs)) % 4) 0 (omega arith)) refl
 
--- the listing of well-formed nodes is sound
-pub listing-sound : (ns : List ListedNode) → WellFormed 0 0 ns → verdict (words (listing ns)) ≡ result tt
-unfolding verdict listing nodeRecords noRecord
-listing-sound [] h = absurd (omega arith)
-listing-sound (value q ∷ ns) h = rw (words-whole, records-words) (judged-nodes 0 none 0 0 (value q ∷ ns) h)
-listing-sound (joining j ∷ ns) h = rw (words-whole, records-words) (judged-nodes 0 none 0 0 (joining j ∷ ns) h)
+-- a node has a record
+some-record : (m : ℕ) (x : ListedNode) (ns : List ListedNode) → (r : Record) × (rest : List Record) × (nodeRecords m (x ∷ ns) ≡ r ∷ rest)
+unfolding nodeRecords
+some-record m (value q) ns = (_, _, refl)
+some-record m (joining j) ns = (_, _, refl)
+
+some-words : (n : ℕ) (pairs : List ℕ) (r : Record) (rest : List Record) → lengthSound (words (exclusionRecords n pairs ++ (r ∷ rest))) ≡ true
+unfolding exclusionRecords
+some-words n [] r rest = words-whole r rest
+some-words n (pair ∷ pairs) r rest = words-whole _ _
+
+-- the listing of some pairs and well-formed nodes is sound
+pub listing-sound : (pairs : List ℕ) (ns : List ListedNode) → PairsFit pairs → WellFormed 0 0 ns → verdict (words (listing pairs ns)) ≡ result tt
+unfolding verdict listing noRecord
+listing-sound pairs [] g h = absurd (omega arith)
+listing-sound pairs (x ∷ ns) g h =
+    let (r, rest, e) = some-record (1 + length pairs) x ns in
+    let sound : judged (length pairs) noRecord (r ∷ rest) ≡ result tt =
+    ap (judged (length pairs) noRecord) (sym e ∙ ap (λ (i : ℕ). nodeRecords i (x ∷ ns)) (omega arith)) ∙ judged-nodes (length pairs) none 0 0 (x ∷ ns) h in
+    rw (e, some-words, records-words) (judged-exclusions 0 pairs r rest (g .0) (omega (arith, g .1)) ∙ ap (λ (i : ℕ). judged i noRecord (r ∷ rest)) (omega arith) ∙ sound)
 
 -- ---- trees
 
@@ -173,8 +210,8 @@ pub tree-nodes : (t : ListedTree) → TreeFits t → policyCount t ≤ 16 → We
 tree-nodes t g room =
     subst (λ (ns : List ListedNode). WellFormed 0 0 ns) (append-nil (postfix t)) (tree-well-formed t 0 0 [] g (omega arith) (omega arith))
 
-pub tree-sound : (t : ListedTree) → TreeFits t → policyCount t ≤ 16 → verdict (words (listing (postfix t))) ≡ result tt
-tree-sound t g room = listing-sound (postfix t) (tree-nodes t g room)
+pub tree-sound : (pairs : List ℕ) (t : ListedTree) → PairsFit pairs → TreeFits t → policyCount t ≤ 16 → verdict (words (listing pairs (postfix t))) ≡ result tt
+tree-sound pairs t fit g room = listing-sound pairs (postfix t) fit (tree-nodes t g room)
 
 -- ---- the nodes of a listing
 
@@ -202,7 +239,24 @@ nodes-records m (value p ∷ ns) =
     rw (kind-policy (p .quiet) (p .turned), leading-lines (m + 1) (p .lines) (nodeRecords (m + 1 + length (p .lines)) ns) (no-leading-lines (m + 1 + length (p .lines)) ns), nodes-lines)
     (ap {B = List ListedNode} (λ x. value p ∷ x) (nodes-records (m + 1 + length (p .lines)) ns))
 
--- the nodes of the listing of some nodes are those nodes
-pub nodes-listing : (ns : List ListedNode) → nodes (records (words (listing ns))) ≡ ns
+-- exclusions are no nodes, and nodes are no exclusions
+nodes-exclusions : (m : ℕ) (pairs : List ℕ) (rest : List Record) → nodes (exclusionRecords m pairs ++ rest) ≡ nodes rest
+unfolding exclusionRecords nodes nodeThen
+nodes-exclusions m [] rest = refl
+nodes-exclusions m (pair ∷ pairs) rest = rw kind-exclusion (nodes-exclusions (m + 1) pairs rest)
+
+excluded-records : (m k : ℕ) (pairs : List ℕ) (ns : List ListedNode) → excluded (exclusionRecords m pairs ++ nodeRecords k ns) ≡ pairs
+unfolding exclusionRecords nodeRecords excluded pairThen
+excluded-records m k [] [] = refl
+excluded-records m k [] (value p ∷ ns) = rw (kind-policy (p .quiet) (p .turned)) refl
+excluded-records m k [] (joining j ∷ ns) = rw (kind-join j) refl
+excluded-records m k (pair ∷ pairs) ns = rw kind-exclusion (ap {B = List ℕ} (λ x. pair ∷ x) (excluded-records (m + 1) k pairs ns))
+
+-- the nodes and the exclusions of a listing are those that it was made of
+pub nodes-listing : (pairs : List ℕ) (ns : List ListedNode) → nodes (records (words (listing pairs ns))) ≡ ns
 unfolding listing
-nodes-listing ns = rw records-words (nodes-records 1 ns)
+nodes-listing pairs ns = rw (records-words, nodes-exclusions) (nodes-records (1 + length pairs) ns)
+
+pub excluded-listing : (pairs : List ℕ) (ns : List ListedNode) → excluded (records (words (listing pairs ns))) ≡ pairs
+unfolding listing
+excluded-listing pairs ns = rw records-words (excluded-records 1 (1 + length pairs) pairs ns)

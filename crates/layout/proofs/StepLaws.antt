@@ -6,10 +6,10 @@ use mathlib.Core.Option.{none, some}
 use mathlib.Core.Path.{_≡_, refl}
 use native.Mathlib.Omega.{arith}
 use borrow.Author.Tests.{eq-eqb, ne-eqb, le-leb, lt-leb}
-use Rattle.signals.specs.Sets.{isSet, inside}
+use Rattle.signals.specs.Sets.{isSet, inside, isPair}
 use Rattle.layout.specs.Records.{Record}
 use Rattle.layout.specs.Judgement.{SoFar, insidePolicy}
-use Rattle.layout.specs.Steps.{policyStep, lineStep, joinStep, owner}
+use Rattle.layout.specs.Steps.{policyStep, lineStep, joinStep, exclusionStep, owner}
 
 module _ (r : Record) (so : SoFar) (x y : ℕ) where
   pub policy-mask : 65535 < r .mask → none ≡ policyStep r so x y
@@ -70,6 +70,36 @@ module _ (r : Record) (so : SoFar) (x : ℕ) where
       → some (record { policyMask = none; values = so .values - 1; policies = so .policies }) ≡ joinStep r so x
   unfolding joinStep
   join-kept a b c d = rw (eq-eqb (r .mask) 0 a, eq-eqb (r .lines) 0 b, eq-eqb (r .next) x c, le-leb 2 (so .values) d) refl
+
+module _ (n : ℕ) (r : Record) (so : SoFar) (x : ℕ) where
+  pub exclusion-low : (so .policies ≡ 0 → ⊥) → none ≡ exclusionStep n r so x
+  unfolding exclusionStep
+  exclusion-low h = rw (ne-eqb (so .policies) 0 h) refl
+
+  pub exclusion-many : 16 < n → none ≡ exclusionStep n r so x
+  unfolding exclusionStep
+  exclusion-many h = rw (lt-leb n 16 h, and-false) refl
+
+  pub exclusion-mask : isPair (r .mask) ≡ false → none ≡ exclusionStep n r so x
+  unfolding exclusionStep
+  exclusion-mask h = rw (h, and-false) refl
+
+  pub exclusion-lines : (r .lines ≡ 0 → ⊥) → none ≡ exclusionStep n r so x
+  unfolding exclusionStep
+  exclusion-lines h = rw (ne-eqb (r .lines) 0 h, and-false) refl
+
+  pub exclusion-next : (r .next ≡ x → ⊥) → none ≡ exclusionStep n r so x
+  unfolding exclusionStep
+  exclusion-next h = rw (ne-eqb (r .next) x h, and-false) refl
+
+  pub exclusion-last : x ≡ 0 → none ≡ exclusionStep n r so x
+  unfolding exclusionStep
+  exclusion-last h = rw (lt-leb 1 x (omega arith), and-false) refl
+
+  pub exclusion-kept : so .policies ≡ 0 → n ≤ 16 → isPair (r .mask) ≡ true → r .lines ≡ 0 → r .next ≡ x → 1 ≤ x
+      → some (record { policyMask = none; values = so .values; policies = so .policies }) ≡ exclusionStep n r so x
+  unfolding exclusionStep
+  exclusion-kept a b c d e f = rw (eq-eqb (so .policies) 0 a, le-leb n 16 b, c, eq-eqb (r .lines) 0 d, eq-eqb (r .next) x e, le-leb 1 x f) refl
 
 -- a line's set against the policy that it belongs to
 pub unowned : (o : Bool) (m mask : ℕ) → o ≡ false → false ≡ insidePolicy mask (owner o m)

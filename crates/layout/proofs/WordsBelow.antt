@@ -7,10 +7,11 @@ use native.Mathlib.Omega.{arith}
 use lib.ListN.{length, length-append}
 use Rattle.arith.specs.Lists.{Each, AllBelow}
 use Rattle.arith.specs.Trees.{value, joining}
-use Rattle.layout.specs.Records.{Record, words, Join, and, or, bit, lineKind, joinKind, policyKind}
+use Rattle.signals.proofs.SetOfLaws.{pair-small}
+use Rattle.layout.specs.Records.{Record, words, Join, and, or, bit, lineKind, joinKind, exclusionKind, policyKind}
 use Rattle.layout.specs.Judgement.{ifAny}
-use Rattle.layout.specs.Nodes.{ListedNode, lineRecords, nodeRecords, listing}
-use Rattle.layout.specs.WellFormed.{LinesFit, WellFormed}
+use Rattle.layout.specs.Nodes.{ListedNode, lineRecords, nodeRecords, exclusionRecords, listing}
+use Rattle.layout.specs.WellFormed.{LinesFit, ArePairs, PairsFit, WellFormed}
 
 any-most : {A : Type 0} (xs : List A) (n : ℕ) → ifAny xs n ≤ n
 unfolding ifAny
@@ -21,6 +22,11 @@ pub lines-count : (n : ℕ) (ls : List ℕ) → length (lineRecords n ls) ≡ le
 unfolding lineRecords
 lines-count n [] = refl
 lines-count n (l ∷ ls) = ap suc (lines-count (n + 1) ls)
+
+pub exclusions-count : (n : ℕ) (pairs : List ℕ) → length (exclusionRecords n pairs) ≡ length pairs
+unfolding exclusionRecords
+exclusions-count n [] = refl
+exclusions-count n (pair ∷ pairs) = ap suc (exclusions-count (n + 1) pairs)
 
 module _ (m : ℕ) (large : 65536 ≤ m) where
   -- each word of a record
@@ -69,6 +75,16 @@ module _ (m : ℕ) (large : 65536 ≤ m) where
     nodes-below (n + 1) (v - 1) p ns (h .1) (omega arith),
   )
 
-  pub listing-below : (ns : List ListedNode) → WellFormed 0 0 ns → 1 + length (listing ns) < m → AllBelow m (words (listing ns))
+  exclusions-below : (n : ℕ) (pairs : List ℕ) (rest : List Record) → ArePairs pairs → n + length pairs < m → Each Below rest → Each Below (exclusionRecords n pairs ++ rest)
+  unfolding exclusionRecords exclusionKind
+  exclusions-below n [] rest g l k = k
+  exclusions-below n (pair ∷ pairs) rest g l k = (
+    record { kind = omega arith; mask = omega (arith, pair-small pair (g .0)); lines = omega arith; next = omega arith },
+    exclusions-below (n + 1) pairs rest (g .1) (omega arith) k,
+  )
+
+  pub listing-below : (pairs : List ℕ) (ns : List ListedNode) → PairsFit pairs → WellFormed 0 0 ns → 1 + length (listing pairs ns) < m → AllBelow m (words (listing pairs ns))
   unfolding listing
-  listing-below ns h l = words-below (listing ns) (nodes-below 1 0 0 ns h l)
+  listing-below pairs ns g h l =
+      let k : length (listing pairs ns) ≡ length pairs + length (nodeRecords (1 + length pairs) ns) = omega (arith, length-append (exclusionRecords 1 pairs) (nodeRecords (1 + length pairs) ns), exclusions-count 1 pairs) in
+      words-below (listing pairs ns) (exclusions-below 1 pairs (nodeRecords (1 + length pairs) ns) (g .0) (omega arith) (nodes-below (1 + length pairs) 0 0 ns h (omega arith)))

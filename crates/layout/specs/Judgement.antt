@@ -1,4 +1,5 @@
--- The layout of a listing, and the verdict on the words handed in (document 01, "Record n has", "Sound also means", refusals 9 and 10).
+-- The layout of a listing, and the verdict on the words handed in (document 01, "Record n has", "Sound also means", refusals 9 and 10;
+-- change request 1 for an exclusion).
 use Prim.Native.Nat.{ℕ, _+_, _-_, _%_}
 use mathlib.Core.Bool.{Bool, false, not, cond, _&&_}
 use mathlib.Core.List.{List, [], _∷_}
@@ -6,8 +7,8 @@ use mathlib.Core.Option.{Option, none, some}
 use lib.Dec.{eqb, leb}
 use lib.ListN.{length}
 use Rattle.answers.specs.Answers.{Answer, result, require}
-use Rattle.signals.specs.Sets.{isSet, inside}
-use Rattle.layout.specs.Records.{Record, records, Kind, policy, line, join, unknown, isLine, kindOf, kinds}
+use Rattle.signals.specs.Sets.{isSet, inside, isPair}
+use Rattle.layout.specs.Records.{Record, records, Kind, policy, line, join, exclusion, unknown, isLine, kindOf, kinds}
 
 -- n, or 0 if nothing follows
 unfoldable pub ifAny {ℓ} : {A : Type ℓ} → List A → ℕ → ℕ
@@ -47,13 +48,18 @@ keepsLayout n so line r after =
     insidePolicy (r .mask) (so .policyMask) && eqb (r .lines) 0 && eqb (r .next) (ifLine after (n + 1))
 keepsLayout n so (join j) r after =
     eqb (r .mask) 0 && eqb (r .lines) 0 && eqb (r .next) (ifAny after (n + 1)) && leb 2 (so .values)
+-- with no policy above, every record above is an exclusion, and this is the n-th of at most 16; a record follows it
+keepsLayout n so exclusion r after =
+    eqb (so .policies) 0 && leb n 16 && isPair (r .mask) && eqb (r .lines) 0 && eqb (r .next) (n + 1) && leb 1 (length after)
 keepsLayout n so unknown r after = false
 
--- what stands above the next record: a policy adds a value and may have lines; a join takes two values and leaves one
+-- what stands above the next record: a policy adds a value and may have lines; a join takes two values and leaves one; an
+-- exclusion adds none and has no lines
 unfoldable pub soFarAfter : SoFar → Kind → Record → SoFar
 soFarAfter so (policy q t) r = record { policyMask = some (r .mask); values = so .values + 1; policies = so .policies + 1 }
 soFarAfter so line r = so
 soFarAfter so (join j) r = record { policyMask = none; values = so .values - 1; policies = so .policies }
+soFarAfter so exclusion r = record { policyMask = none; values = so .values; policies = so .policies }
 soFarAfter so unknown r = so
 
 -- the first record that breaks the layout is refused; the last, if values are left over. n records stand above these

@@ -33,6 +33,7 @@ pub data Kind : Type 0 where
   policy : (quiet turned : Bool) → Kind
   line : Kind
   join : Join → Kind
+  exclusion : Kind
   unknown : Kind
 
 -- 1 for yes, 0 for no
@@ -49,6 +50,10 @@ unfoldable pub joinKind : Join → ℕ
 joinKind and = 2
 joinKind or = 3
 
+-- 5 a pair of signals that never occur together (change request 1)
+unfoldable pub exclusionKind : ℕ
+exclusionKind = 5
+
 -- 16 + quiet + 2 × turned policy
 unfoldable pub policyKind : (quiet turned : Bool) → ℕ
 policyKind quiet turned = 16 + bit quiet + 2 * bit turned
@@ -63,13 +68,15 @@ kindOf k =
     (cond (eqb k (policyKind true false)) (policy true false)
     (cond (eqb k (policyKind false true)) (policy false true)
     (cond (eqb k (policyKind true true)) (policy true true)
-    unknown))))))
+    (cond (eqb k exclusionKind) exclusion
+    unknown)))))))
 
 -- a record is a line
 unfoldable pub isLine : Kind → Bool
 isLine line = true
 isLine (policy q t) = false
 isLine (join j) = false
+isLine exclusion = false
 isLine unknown = false
 
 -- the kinds of some records, in their order

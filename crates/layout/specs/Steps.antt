@@ -6,13 +6,13 @@ use mathlib.Core.Option.{Option, none, some}
 use mathlib.Core.Path.{_≡_}
 use lib.Dec.{eqb, leb}
 use lib.ListN.{getD, drop}
-use Rattle.signals.specs.Sets.{isSet}
+use Rattle.signals.specs.Sets.{isSet, isPair}
 use Rattle.layout.specs.Records
 use Rattle.layout.specs.Records.{records, kindOf, kinds}
 use Rattle.layout.specs.Judgement
 use Rattle.layout.specs.Judgement.{nextNode, insidePolicy, keepsLayout, soFarAfter, judged}
 use Rattle.layout.specs.declared.Kind.{Kind}
-use Rattle.layout.specs.declared.Kind.the-variants.{Line, And, Or, Policy, Unknown}
+use Rattle.layout.specs.declared.Kind.the-variants.{Line, And, Or, Policy, Exclusion, Unknown}
 use Rattle.layout.specs.declared.Record.{Record}
 use Rattle.layout.specs.declared.SoFar.{SoFar}
 use Rattle.layout.specs.declared.Step.{Step}
@@ -24,6 +24,7 @@ kindMeaning Line = Records.Kind.line
 kindMeaning And = Records.Kind.join Records.Join.and
 kindMeaning Or = Records.Kind.join Records.Join.or
 kindMeaning (Policy q t) = Records.Kind.policy q t
+kindMeaning Exclusion = Records.Kind.exclusion
 kindMeaning Unknown = Records.Kind.unknown
 
 -- a record
@@ -65,6 +66,11 @@ unfoldable pub joinStep : Records.Record → Judgement.SoFar → ℕ → Option 
 joinStep r so after =
     cond (eqb (r .mask) 0 && eqb (r .lines) 0 && eqb (r .next) after && leb 2 (so .values))
     (some (record { policyMask = none; values = so .values - 1; policies = so .policies })) none
+
+unfoldable pub exclusionStep : ℕ → Records.Record → Judgement.SoFar → ℕ → Option Judgement.SoFar
+exclusionStep n r so after =
+    cond (eqb (so .policies) 0 && leb n 16 && isPair (r .mask) && eqb (r .lines) 0 && eqb (r .next) after && leb 1 after)
+    (some (record { policyMask = none; values = so .values; policies = so .policies })) none
 
 -- one step over record n
 unfoldable pub stepOf : ℕ → Judgement.SoFar → Records.Kind → Records.Record → List Records.Kind → Option Judgement.SoFar

@@ -1,10 +1,12 @@
--- The nodes that a sound listing holds.
+-- The nodes and the excluded pairs that a sound listing holds.
 use Prim.Native.Nat.{ℕ, _+_, _-_, _≤_}
 use mathlib.Core.Bool.{true}
 use mathlib.Core.List.{List, [], _∷_}
 use mathlib.Core.Path.{_≡_}
+use lib.ListN.{length}
+use Rattle.arith.specs.Lists.{Each}
 use Rattle.arith.specs.Trees.{leaf, join, value, joining}
-use Rattle.signals.specs.Sets.{inside}
+use Rattle.signals.specs.Sets.{inside, isPair}
 use Rattle.layout.specs.Nodes.{ListedPolicy, ListedNode, ListedTree}
 
 -- each line is a signal set inside the mask
@@ -26,6 +28,14 @@ TreeFits (join j a b) = TreeFits a × TreeFits b
 unfoldable pub policyCount : ListedTree → ℕ
 policyCount (leaf p) = 1
 policyCount (join j a b) = policyCount a + policyCount b
+
+-- each of these masks is a set of exactly two signals
+abbrev pub ArePairs : List ℕ → Type 0
+ArePairs pairs = Each (λ (m : ℕ). isPair m ≡ true) pairs
+
+-- at most 16 such pairs
+abbrev pub PairsFit : List ℕ → Type 0
+PairsFit pairs = ArePairs pairs × (length pairs ≤ 16)
 
 -- below v values and p policies these nodes fit, have no join without two values and no seventeenth policy, and leave one value
 abbrev pub WellFormed : ℕ → ℕ → List ListedNode → Type 0

@@ -7,7 +7,13 @@ ghost use lib.ListN.{length};
 ghost use Rattle.layout.specs.Records.{kindOf, kinds};
 ghost use Rattle.layout.specs.Judgement.{ifAny, ifLine, nextNode, insidePolicy, verdict};
 ghost use Rattle.layout.specs.Meaning.{verdictMeaning};
-ghost use Rattle.layout.specs.Steps.{kindMeaning, recordMeaning, recordAt, recordsFrom, soFarMeaning, stepMeaning, policyStep, lineStep, joinStep, stepAt, PassedOver, AfterLines};
+ghost use Rattle.layout.specs.Steps.{kindMeaning, recordMeaning, recordAt, recordsFrom, soFarMeaning, stepMeaning, policyStep, lineStep, joinStep, exclusionStep, stepAt, PassedOver, AfterLines};
+
+// The kind of a pair of signals that never occur together.
+pub const EXCLUSION: u32 = 5;
+
+// How many of them a listing may begin with.
+const MOST_EXCLUSIONS: usize = 16;
 
 // What a record is by its first word.
 pub enum Kind {
@@ -15,6 +21,7 @@ pub enum Kind {
     And,
     Or,
     Policy { quiet: bool, turned: bool },
+    Exclusion,
     Unknown,
 }
 
@@ -53,6 +60,9 @@ pub fn kind_of(k: u32) -> Kind
             quiet: true,
             turned: true,
         };
+    }
+    if k == EXCLUSION {
+        return Kind::Exclusion;
     }
     Kind::Unknown
 }
@@ -171,6 +181,36 @@ fn join_step(r: Record, so: SoFar, after: usize) -> Step
     })
 }
 
+// Record n, a pair of signals that never occur together, whose words must name the record `after` as the next; 0 if there is none.
+fn exclusion_step(r: Record, so: SoFar, n: usize, after: usize) -> Step
+    ensures { λ s. ⌜ stepMeaning s ≡ exclusionStep n (recordMeaning r) (soFarMeaning so) after ⌝ }
+{
+    if so.policies != 0 {
+        return Step::Breaks;
+    }
+    if n > MOST_EXCLUSIONS {
+        return Step::Breaks;
+    }
+    if !signals::is_pair(r.mask) {
+        return Step::Breaks;
+    }
+    if r.lines != 0 {
+        return Step::Breaks;
+    }
+    if r.next as usize != after {
+        return Step::Breaks;
+    }
+    if after == 0 {
+        return Step::Breaks;
+    }
+    Step::Next(SoFar {
+        owned: false,
+        mask: 0,
+        values: so.values,
+        policies: so.policies,
+    })
+}
+
 // The number of the record at index i if it is there and is a line, else 0.
 fn if_line(words: &[u32], i: usize) -> usize
     ensures { λ r. ⌜ r ≡ ifLine (kinds (recordsFrom (now (words .entry)) i)) (i + 1) ⌝ }
@@ -264,6 +304,7 @@ fn step_at(words: &[u32], i: usize, so: SoFar, end: usize) -> Step
             turned: _,
         } => { policy_step(r, so, if_line(words, i + 1), next_node(words, end)) }
         Kind::Unknown => Step::Breaks,
+        Kind::Exclusion => exclusion_step(r, so, i + 1, if_any(words, i + 1)),
     }
 }
 

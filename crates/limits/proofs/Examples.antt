@@ -3,7 +3,7 @@ use mathlib.Core.Bool.{true, false}
 use mathlib.Core.Option.{none, some}
 use mathlib.Core.Path.{_≡_, refl}
 use lib.IntN.{pos, negsuc}
-use Rattle.limits.specs.Limits.{bookFits, lineFits, roomForPolicy, roomForCondition, roomForRule, signalInRange, within, defaultInRange, scoreInRange, thresholdInRange}
+use Rattle.limits.specs.Limits.{bookFits, lineFits, roomForPolicy, roomForCondition, roomForRule, roomForExclusion, signalInRange, exclusionInRange, within, defaultInRange, scoreInRange, thresholdInRange}
 use Rattle.peal.specs.declared.Operator.the-variants.{Min, Max, Sum, Mul}
 
 book-full : bookFits 8192 ≡ true
@@ -42,11 +42,29 @@ ninth-sum-rule : roomForRule Sum 8 ≡ true
 unfolding roomForRule
 ninth-sum-rule = refl
 
+sixteenth-exclusion : roomForExclusion 15 ≡ true
+sixteenth-exclusion = refl
+
+seventeenth-exclusion : roomForExclusion 16 ≡ false
+seventeenth-exclusion = refl
+
 last-signal : signalInRange 15 ≡ true
 last-signal = refl
 
 signal-sixteen : signalInRange 16 ≡ false
 signal-sixteen = refl
+
+outermost-signals : exclusionInRange 0 15 ≡ true
+outermost-signals = refl
+
+first-sixteen : exclusionInRange 16 0 ≡ false
+first-sixteen = refl
+
+second-sixteen : exclusionInRange 0 16 ≡ false
+second-sixteen = refl
+
+signal-with-itself : exclusionInRange 3 3 ≡ false
+signal-with-itself = refl
 
 no-default : defaultInRange none ≡ true
 unfolding defaultInRange

@@ -1,8 +1,8 @@
--- The limits and ranges of a book (document 01, "The book").
+-- The limits and ranges of a book (document 01, "The book"; change request 1 for an `x`).
 use Prim.Native.Nat.{ℕ}
-use mathlib.Core.Bool.{Bool, true, _&&_}
+use mathlib.Core.Bool.{Bool, true, not, _&&_}
 use mathlib.Core.Option.{Option, none, some}
-use lib.Dec.{leb, ltb}
+use lib.Dec.{leb, ltb, eqb}
 use lib.IntN.{ℤ, pos, negℤ}
 use lib.Signed.{leZ}
 use Rattle.peal.specs.declared.Operator.{Operator}
@@ -31,9 +31,17 @@ roomForRule Max n = true
 roomForRule Sum n = true
 roomForRule Mul n = ltb n 8
 
+-- at most 16 exclusions: one more after n
+abbrev pub roomForExclusion : ℕ → Bool
+roomForExclusion n = ltb n 16
+
 -- S is 0 to 15
 abbrev pub signalInRange : ℕ → Bool
 signalInRange s = leb s 15
+
+-- A and B are signals, and not the same
+abbrev pub exclusionInRange : (a b : ℕ) → Bool
+exclusionInRange a b = signalInRange a && signalInRange b && not (eqb a b)
 
 -- z is low to high
 unfoldable pub within : (low high z : ℤ) → Bool

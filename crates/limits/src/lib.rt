@@ -1,7 +1,7 @@
 // The limits and ranges of a book, each a test of its own: every call takes every number.
 ghost use mathlib.Core.Option.{some};
 ghost use mathlib.Core.Path.{_≡_};
-ghost use Rattle.limits.specs.Limits.{bookFits, lineFits, roomForPolicy, roomForCondition, roomForRule, signalInRange, within as withinOf, defaultInRange, scoreInRange, thresholdInRange};
+ghost use Rattle.limits.specs.Limits.{bookFits, lineFits, roomForPolicy, roomForCondition, roomForRule, roomForExclusion, signalInRange, exclusionInRange, within as withinOf, defaultInRange, scoreInRange, thresholdInRange};
 
 const MOST_BOOK_BYTES: usize = 8192;
 
@@ -12,6 +12,8 @@ const MOST_POLICIES: usize = 16;
 const MOST_CONDITIONS: usize = 8;
 
 const MOST_MUL_RULES: usize = 8;
+
+const MOST_EXCLUSIONS: usize = 16;
 
 const LAST_SIGNAL: u32 = 15;
 
@@ -69,10 +71,30 @@ pub fn room_for_rule(o: peal::Operator, n: usize) -> bool
     }
 }
 
+// A book of n exclusions has room for one more.
+pub fn room_for_exclusion(n: usize) -> bool
+    ensures { λ r. ⌜ r ≡ roomForExclusion n ⌝ }
+{
+    n < MOST_EXCLUSIONS
+}
+
 pub fn signal_in_range(s: u32) -> bool
     ensures { λ r. ⌜ r ≡ signalInRange s ⌝ }
 {
     s <= LAST_SIGNAL
+}
+
+// An exclusion may have the signals a and b.
+pub fn exclusion_in_range(a: u32, b: u32) -> bool
+    ensures { λ r. ⌜ r ≡ exclusionInRange a b ⌝ }
+{
+    if !signal_in_range(a) {
+        return false;
+    }
+    if !signal_in_range(b) {
+        return false;
+    }
+    a != b
 }
 
 // z is low to high.

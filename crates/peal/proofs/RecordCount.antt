@@ -1,6 +1,6 @@
 -- A condition's listing has few records: a policy's record and its lines for each mention, and a record for each join.
 use Prim.Native.Nat.{ℕ, _+_, _*_, _≤_}
-use mathlib.Core.List.{List, [], _∷_, _++_}
+use mathlib.Core.List.{List, [], _∷_, _++_, map}
 use mathlib.Core.Path.{_≡_, refl}
 use native.Mathlib.Nat.{mul-le-mul-right}
 use native.Mathlib.Omega.{arith}
@@ -9,12 +9,12 @@ use lib.ListN.{length, length-append, length-map}
 use Rattle.arith.specs.Trees.{Tree, leaf, join, value, joining, postfix, mapTree}
 use Rattle.arith.proofs.Each.{each-default}
 use Rattle.layout.specs.Records.{Join}
-use Rattle.layout.specs.Nodes.{ListedPolicy, ListedNode, lineRecords, nodeRecords, listing}
+use Rattle.layout.specs.Nodes.{ListedPolicy, ListedNode, lineRecords, nodeRecords, exclusionRecords, listing}
 use Rattle.layout.specs.WellFormed.{policyCount}
-use Rattle.layout.proofs.WordsBelow.{lines-count}
+use Rattle.layout.proofs.WordsBelow.{lines-count, exclusions-count}
 use Rattle.peal.specs.Policies.{Policy, emptyPolicy, policyAt}
 use Rattle.peal.specs.Lines.{lines}
-use Rattle.peal.specs.Translation.{joinOf, maskOf, listed, translated, listingRecords}
+use Rattle.peal.specs.Translation.{joinOf, maskOf, listed, translated, pairMask, listingRecords}
 use Rattle.peal.specs.RecordsAreFew.{RecordsAreFew}
 use Rattle.peal.specs.declared.Sense.{Sense}
 use Rattle.peal.proofs.LineLaws.{lines-are-few}
@@ -55,14 +55,20 @@ listed-few s t p h =
 
 pub records-are-few : RecordsAreFew
 unfolding listingRecords listing translated policyAt emptyPolicy
-records-are-few b c rules mentions =
+records-are-few b c rules pairs mentions =
     omega (
       arith,
-      count-records 1 (postfix (translated (b .policies) c)),
+      length-append (exclusionRecords 1 masks) (nodeRecords (1 + length masks) (postfix (translated (b .policies) c))),
+      exclusions-count 1 masks,
+      length-map (b .exclusions) pairMask,
+      count-records (1 + length masks) (postfix (translated (b .policies) c)),
       count-tree (joinOf (c .sense)) (λ n. listed (c .sense) (c .threshold) (policyAt (b .policies) n)) 65536 each (c .expression),
       mul-le-mul-right (65536 + 2) mentions,
     )
   where
+    masks : List ℕ
+    masks = map pairMask (b .exclusions)
+
     each : (n : ℕ) → length (listed (c .sense) (c .threshold) (policyAt (b .policies) n) .lines) ≤ 65536
     each n =
         listed-few (c .sense) (c .threshold) (policyAt (b .policies) n)

@@ -5,8 +5,8 @@ use Rattle.peal.specs.Policies.{emptyPolicy, policyAt}
 use Rattle.peal.specs.Score.{scaled, presentRules, total, product, scaledProduct, ofTwo, ofAll, applied, scoreOf, policyScore, score, meets, decision}
 use Rattle.peal.specs.Ranking.{ranksAbove, higher, placed, ranked}
 use Rattle.peal.specs.Lines.{setsInside, smallerSets, minimal, minimalSets, singles, sumAbove, productAtMost, lines}
-use Rattle.peal.specs.Translation.{joinOf, quiet, turned, maskOf, listed, translated, listingRecords}
+use Rattle.peal.specs.Translation.{joinOf, quiet, turned, maskOf, listed, translated, pairMask, listingRecords}
 
 unfoldable pub pealComputes : Unit {0}
-unfolding layoutComputes mapTree treeValue emptyPolicy policyAt scaled presentRules total product scaledProduct ofTwo ofAll applied scoreOf policyScore score meets decision ranksAbove higher placed ranked setsInside smallerSets minimal minimalSets singles sumAbove productAtMost lines joinOf quiet turned maskOf listed translated listingRecords
+unfolding layoutComputes mapTree treeValue emptyPolicy policyAt scaled presentRules total product scaledProduct ofTwo ofAll applied scoreOf policyScore score meets decision ranksAbove higher placed ranked setsInside smallerSets minimal minimalSets singles sumAbove productAtMost lines joinOf quiet turned maskOf listed translated pairMask listingRecords
 pealComputes = tt

@@ -33,14 +33,24 @@ pub record Condition : Type 0 where
   pub threshold : ℤ
   pub expression : Expression
 
--- policies and conditions, each counted from 0 in order of appearance
+-- `x A B`: signals A and B never occur together (change request 1); the two as read
+pub record Exclusion : Type 0 where
+  pub first : ℕ
+  pub second : ℕ
+
+-- policies, exclusions and conditions, each in order of appearance; policies and conditions are counted from 0
 pub record Book : Type 0 where
   pub policies : List Policy
+  pub exclusions : List Exclusion
   pub conditions : List Condition
 
 -- stands in for a rule that is not there
 unfoldable pub noRule : Rule
 noRule = record { signal = 0; score = pos 0 }
+
+-- stands in for an exclusion that is not there
+unfoldable pub noExclusion : Exclusion
+noExclusion = record { first = 0; second = 0 }
 
 -- stands in for a policy that is not there; no condition of an accepted book mentions one
 unfoldable pub emptyPolicy : Policy

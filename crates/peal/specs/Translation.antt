@@ -1,13 +1,13 @@
--- What a condition becomes in a listing (document 01, "From condition to listing").
+-- What a condition becomes in a listing (document 01, "From condition to listing"; change request 1 for the excluded pairs).
 use Prim.Native.Nat.{ℕ}
 use mathlib.Core.Bool.{Bool, true, false}
-use mathlib.Core.List.{List, map}
+use mathlib.Core.List.{List, [], _∷_, map}
 use lib.IntN.{ℤ}
 use Rattle.arith.specs.Trees.{postfix, mapTree}
 use Rattle.signals.specs.Sets.{setOf}
 use Rattle.layout.specs.Records.{Record, Join, and, or}
 use Rattle.layout.specs.Nodes.{ListedPolicy, ListedTree, listing}
-use Rattle.peal.specs.Policies.{Rule, Policy, MinMax, smaller, larger, Condition, Book, policyAt}
+use Rattle.peal.specs.Policies.{Rule, Policy, MinMax, smaller, larger, Exclusion, Condition, Book, policyAt}
 use Rattle.peal.specs.Score.{scaled, meets}
 use Rattle.peal.specs.Lines.{lines}
 use Rattle.peal.specs.declared.Operator.{Operator}
@@ -55,6 +55,10 @@ listed s t p =
 unfoldable pub translated : List Policy → Condition → ListedTree
 translated ps c = mapTree (joinOf (c .sense)) (λ n. listed (c .sense) (c .threshold) (policyAt ps n)) (c .expression)
 
--- the records of a condition's listing
+-- the mask of an excluded pair
+unfoldable pub pairMask : Exclusion → ℕ
+pairMask x = setOf (x .first ∷ x .second ∷ [])
+
+-- the records of a condition's listing: the excluded pairs of the book in book order, then the nodes
 unfoldable pub listingRecords : Book → Condition → List Record
-listingRecords b c = listing (postfix (translated (b .policies) c))
+listingRecords b c = listing (map pairMask (b .exclusions)) (postfix (translated (b .policies) c))

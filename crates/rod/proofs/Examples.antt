@@ -51,3 +51,8 @@ declined-length = refl
 declined-record : rodAnswer (17 ∷ 0 ∷ 0 ∷ 2 ∷ 16 ∷ 0 ∷ 0 ∷ 0 ∷ []) 0 ≡ refused 10 2
 unfolding rodComputes
 declined-record = refl
+
+-- the rod reads past excluded pairs, and decides on sets that hold one too
+past-a-pair : rodAnswer (5 ∷ 3 ∷ 0 ∷ 2 ∷ 16 ∷ 3 ∷ 3 ∷ 0 ∷ 4 ∷ 3 ∷ 0 ∷ 0 ∷ []) 3 ≡ result true
+unfolding rodComputes
+past-a-pair = refl

@@ -10,12 +10,12 @@ use lib.ListN.{length, getD, drop}
 use Rattle.answers.specs.Answers.{result, refused}
 use Rattle.arith.specs.Trees.{taken, run}
 use Rattle.arith.proofs.Order.{le-or-lt}
-use Rattle.layout.specs.Records.{Record, records, Join, Kind, policy, line, unknown, kindOf, isLine, kinds}
+use Rattle.layout.specs.Records.{Record, records, Join, Kind, policy, line, exclusion, unknown, kindOf, isLine, kinds}
 use Rattle.layout.specs.Judgement.{ifAny, noRecord, keepsLayout, soFarAfter, judged, verdict}
 use Rattle.layout.specs.Nodes.{ListedNode, leadingLines, nodeThen, nodes}
 use Rattle.layout.specs.WellFormed.{LinesFit}
 use Rattle.layout.specs.Steps.{recordAt, recordsFrom}
-use Rattle.layout.proofs.Shape.{kept-policy, kept-join, sound-step, no-owner, lines-fit, sound-judged, sound-well-formed}
+use Rattle.layout.proofs.Shape.{kept-policy, kept-join, kept-exclusion, some-after, sound-step, no-owner, lines-fit, sound-judged, sound-well-formed}
 use Rattle.layout.proofs.Places.{from-cons, from-nil}
 use Rattle.layout.proofs.Runs.{behindLines, behind-drop, behind-no-line, behind-nodes, behind-next, behind-judged, from-behind, run-in-words, nodes-here}
 use Rattle.rod.specs.Reading.{policyValue, joined, remaining, reading, says, rodAnswer}
@@ -94,6 +94,13 @@ module _ (ws : List ℕ) (at : ℕ) (lt : at < length ws / 4) (node : NodeAt ws 
           kept-join (at + 1) (node .above) (recordAt ws at) (kinds rest) j (step (Kind.join j) e .0) .2
           ∙ any-kinds rest (at + 1 + 1)
           ∙ ap₂ (λ (rs : List Record) (n : ℕ). ifAny rs n) (sym (no-lines-behind rest none)) (omega (arith, ap length none))
+      go exclusion e =
+          let none : leadingLines rest ≡ [] = no-owner (at + 1) _ rest refl (step exclusion e .1) in
+          let kept = kept-exclusion (at + 1) (node .above) (recordAt ws at) (kinds rest) (step exclusion e .0) in
+          kept .4
+          ∙ sym (some-after (kinds rest) (at + 1 + 1) (kept .5))
+          ∙ any-kinds rest (at + 1 + 1)
+          ∙ ap₂ (λ (rs : List Record) (n : ℕ). ifAny rs n) (sym (no-lines-behind rest none)) (omega (arith, ap length none))
 
   end-within : nodeEnd ws at ≤ length ws / 4
   unfolding nodeEnd
@@ -154,6 +161,20 @@ module _ (ws : List ℕ) (set at values : ℕ) (lt : at < length ws / 4) (u : Un
         few = omega (arith, u .few);
         atMost = k .3;
         same = ap (λ (x : Bool). remaining (run joined (policyValue set) (nodes (recordsFrom ws (nodeEnd ws at))) (x ∷ u .stack))) ev ∙ same-here (policy q t) e;
+      }
+
+  -- an exclusion leaves the values as they are
+  pub past-exclusion : exclusion ≡ kindOf (getD ws (at * 4) 0) → Underway ws set (nodeEnd ws at) values
+  unfolding soFarAfter nodeThen node-after
+  past-exclusion e =
+      record {
+        node = node-after ws at lt (u .node) exclusion e;
+        stack = u .stack;
+        held = u .held;
+        height = u .height;
+        few = u .few;
+        atMost = u .atMost;
+        same = same-here exclusion e;
       }
 
   -- a join takes two values and leaves one

@@ -8,7 +8,7 @@ use Rattle.arith.proofs.Trees.{run-tree}
 use Rattle.layout.specs.Records.{words}
 use Rattle.layout.specs.Judgement.{verdict}
 use Rattle.layout.specs.Nodes.{ListedNode, ListedTree, listing}
-use Rattle.layout.specs.WellFormed.{TreeFits, policyCount}
+use Rattle.layout.specs.WellFormed.{TreeFits, policyCount, PairsFit}
 use Rattle.layout.proofs.Soundness.{tree-sound, nodes-listing}
 use Rattle.layout.proofs.Shape.{sound-tree}
 use Rattle.rod.specs.Reading.{policyValue, joined, remaining, reading, says, rodAnswer}
@@ -19,11 +19,11 @@ reading-tree t set =
     ap remaining
     (ap (λ (ns : List ListedNode). run joined (policyValue set) ns []) (sym (append-nil (postfix t))) ∙ run-tree joined (policyValue set) t [] [])
 
--- on the listing of a tree that fits, of at most 16 policies, the rod never refuses and gives the tree's value
-pub rod-tree : (t : ListedTree) (set : ℕ) → TreeFits t → policyCount t ≤ 16
-    → rodAnswer (words (listing (postfix t))) set ≡ result (treeValue joined (policyValue set) t)
+-- on the listing of a tree that fits, of at most 16 policies, whatever pairs are excluded, the rod never refuses and gives the tree's value
+pub rod-tree : (pairs : List ℕ) (t : ListedTree) (set : ℕ) → PairsFit pairs → TreeFits t → policyCount t ≤ 16
+    → rodAnswer (words (listing pairs (postfix t))) set ≡ result (treeValue joined (policyValue set) t)
 unfolding rodAnswer says
-rod-tree t set fits room = rw (tree-sound t fits room, nodes-listing, reading-tree) refl
+rod-tree pairs t set fit fits room = rw (tree-sound pairs t fit fits room, nodes-listing, reading-tree) refl
 
 -- on any sound listing it gives the value of the tree that it is the listing of
 pub rod-sound : (ws : List ℕ) (set : ℕ) (h : verdict ws ≡ result tt) → rodAnswer ws set ≡ result (treeValue joined (policyValue set) (sound-tree ws h .tree))

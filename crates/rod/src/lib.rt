@@ -116,6 +116,7 @@ fn after_node(words: &[u32], at: usize, end: usize, set: u16, values: u32) -> u3
         layout::Kind::Or => with_join(values, true),
         layout::Kind::Line => values,
         layout::Kind::Unknown => values,
+        layout::Kind::Exclusion => values,
     }
 }
 

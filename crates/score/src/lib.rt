@@ -36,7 +36,7 @@ fn is_met(cells: &book::Cells, n: usize, set: u16) -> bool
 pub fn decide(bytes: &[u8], condition: u32, set: u16) -> Decision
     ensures { λ r. ⌜ scoreMeaning r ≡ scoredAnswer (now (bytes .entry)) condition set ⌝ }
 {
-    let mut cells = [0i32; 848];
+    let mut cells = [0i32; book::CELL_COUNT];
     let answer = book::read(bytes, &mut cells);
     match answer {
         book::Checked::Accepted {

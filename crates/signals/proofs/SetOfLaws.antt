@@ -1,18 +1,21 @@
 -- Laws of the set of some signals: which are present in it, how large it is, and when it lies inside a set or shares a signal with one.
-use Prim.Native.Nat.{ℕ, zero, suc, _+_, _/_, _%_, _^_, _<_}
+use Prim.Native.Nat.{ℕ, zero, suc, _+_, _/_, _%_, _^_, _≤_, _<_}
 use mathlib.Core.Bool.{Bool, true, false, not, _&&_, _||_, not-or-self}
 use mathlib.Core.List.{List, [], _∷_}
 use mathlib.Core.Path.{_≡_, refl, sym, ap, _∙_}
 use native.Mathlib.Nat.{pow-suc}
 use native.Mathlib.Omega.{arith}
+use lib.Bits as bits
+use lib.Bits.{bitAnd, and-zero-l}
 use lib.Dec.{eqb, eqb·zero-suc, eqb·suc-zero, eqb·suc-suc}
 use lib.Pow.{pow-pos}
-use borrow.Author.Tests.{eqb-false, eq-eqb}
-use Rattle.arith.specs.Lists.{every, any, isIn, AllBelow, Distinct}
+use borrow.Author.Tests.{eqb-true, eqb-false, eq-eqb, ne-eqb, leb-true}
+use Rattle.arith.specs.Lists.{every, any, below, isIn, AllBelow, Distinct}
 use Rattle.arith.proofs.AnyEvery.{every-all, every-same, any-same}
-use Rattle.arith.proofs.Below.{every-listed, any-listed}
-use Rattle.signals.specs.Sets.{signals, present, inside, overlap, setOf}
-use Rattle.signals.proofs.SetLaws.{present-zero, present-suc}
+use Rattle.arith.proofs.Below.{every-listed, any-listed, every-below}
+use Rattle.arith.proofs.Tests.{clash, not-yes, and-left}
+use Rattle.signals.specs.Sets.{signals, isSet, present, inside, overlap, size, isPair, setOf}
+use Rattle.signals.proofs.SetLaws.{present-zero, present-suc, inside-and}
 
 -- ---- one signal more
 
@@ -77,3 +80,37 @@ module _ (ss : List ℕ) (b : AllBelow 16 ss) (d : Distinct ss) (set : ℕ) wher
 pub inside-self : (set : ℕ) → inside set set ≡ true
 unfolding inside
 inside-self set = every-all (λ s. not (present set s) || present set s) (λ s. not-or-self (present set s)) signals
+
+-- ---- pairs
+
+-- every two signals are the same or a pair
+all-pairs : every (λ a. every (λ b. eqb a b || isPair (setOf (a ∷ b ∷ []))) (below 16)) (below 16) ≡ true
+unfolding isPair isSet size signals present setOf
+all-pairs = refl
+
+-- two different signals make a pair
+pub two-signals : (a b : ℕ) → a < 16 → b < 16 → (a ≡ b → ⊥) → isPair (setOf (a ∷ b ∷ [])) ≡ true
+two-signals a b h k differ =
+    let tried = every-below (λ y. eqb a y || isPair (setOf (a ∷ y ∷ []))) 16 (every-below (λ x. every (λ y. eqb x y || isPair (setOf (x ∷ y ∷ []))) (below 16)) 16 all-pairs a h) b k in
+    sym (ap (λ (t : Bool). t || isPair (setOf (a ∷ b ∷ []))) (ne-eqb a b differ)) ∙ tried
+
+-- a pair is a signal set
+pub pair-is-set : (mask : ℕ) → isPair mask ≡ true → isSet mask ≡ true
+unfolding isPair
+pair-is-set mask h = and-left (isSet mask) (eqb (size mask) 2) h
+
+pub pair-small : (mask : ℕ) → isPair mask ≡ true → mask ≤ 65535
+unfolding isSet
+pair-small mask h = leb-true mask 65535 (pair-is-set mask h)
+
+no-signals : isPair 0 ≡ false
+unfolding isPair isSet size signals present
+no-signals = refl
+
+-- no pair lies inside the empty set
+pub pair-not-empty : (mask : ℕ) → isPair mask ≡ true → inside mask 0 ≡ false
+pair-not-empty mask h =
+    not-yes (inside mask 0) (λ i.
+    let same : bitAnd mask 0 ≡ mask = eqb-true _ _ (sym (inside-and mask 0 (omega (arith, pair-small mask h))) ∙ i) in
+    let none : mask ≡ 0 = sym same ∙ bits.and-comm mask 0 ∙ and-zero-l mask in
+    clash h (ap isPair none ∙ no-signals))

@@ -3,7 +3,8 @@ use Prim.Native.Nat.{ℕ, _+_, _/_, _%_, _^_}
 use mathlib.Core.Bool.{Bool, not, _&&_, _||_}
 use mathlib.Core.List.{List, [], _∷_}
 use lib.Dec.{eqb, leb}
-use Rattle.arith.specs.Lists.{every, any, below}
+use lib.ListN.{length}
+use Rattle.arith.specs.Lists.{every, any, keep, below}
 
 -- the signals are 0 to 15
 unfoldable pub signals : List ℕ
@@ -24,6 +25,14 @@ inside mask set = every (λ s. not (present mask s) || present set s) signals
 -- the mask shares a signal with the set
 unfoldable pub overlap : ℕ → ℕ → Bool
 overlap mask set = any (λ s. present mask s && present set s) signals
+
+-- how many signals a set has
+unfoldable pub size : ℕ → ℕ
+size set = length (keep (present set) signals)
+
+-- a set of exactly two signals
+unfoldable pub isPair : ℕ → Bool
+isPair mask = isSet mask && eqb (size mask) 2
 
 -- the set of some signals, all different
 unfoldable pub setOf : List ℕ → ℕ

@@ -1,4 +1,4 @@
--- "One book in full", and cases a to j of "Corners held fast" in the order of the table: each one computed comparison.
+-- "One book in full", cases a to j of "Corners held fast" in the order of the table, and a book with an excluded pair: each one computed comparison.
 use Prim.Native.String.{String, _++_}
 use mathlib.Core.Path.{_≡_, refl}
 use mathlib.Core.List.{[], _∷_}
@@ -94,3 +94,25 @@ case-i = refl
 case-j : listing "p min\nc 0 < p0\n" ≡ result (18 ∷ 0 ∷ 0 ∷ 0 ∷ [])
 unfolding allCompute
 case-j = refl
+
+-- ---- change request 1: signals that can't stand together
+
+-- three rules of which any two exceed 50, and two of their signals that never occur together
+unfoldable pub apart : String
+apart = "x 0 1\np sum 0\nr 0 40\nr 1 30\nr 2 30\nc 50 < p0\n"
+
+-- the listing begins with the pair
+pairs-words : listing apart
+    ≡ result
+    (5 ∷ 3 ∷ 0 ∷ 2
+    ∷ 16 ∷ 7 ∷ 3 ∷ 0
+    ∷ 4 ∷ 5 ∷ 0 ∷ 4
+    ∷ 4 ∷ 3 ∷ 0 ∷ 5
+    ∷ 4 ∷ 6 ∷ 0 ∷ 0 ∷ [])
+unfolding apart allCompute
+pairs-words = refl
+
+-- the choice check passes over set 3, on which logger and rod say yes all the same
+pairs-choice : chooses apart & decides apart 3 ≡ result (both 5 0) & W.yes
+unfolding apart allCompute
+pairs-choice = refl

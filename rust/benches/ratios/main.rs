@@ -5,7 +5,9 @@ mod optimised;
 mod samples;
 mod timing;
 
-use samples::{SAMPLE, listing, long_listing, many_mentions, never_book, never_mentions, policy, sum_book, wide_book};
+use samples::{
+    SAMPLE, exclusions, listing, long_listing, many_mentions, never_book, never_mentions, policy, sum_book, wide_book,
+};
 use timing::{Input, Table};
 
 fn main() {
@@ -29,6 +31,7 @@ fn check(table: &Table) {
     }
     row("the same, last line not ended", wide_book(16).trim_end().as_bytes());
     row("products of 8 rules: 16", policy("mul", 8, |score| 90 + score as i64).repeat(16).as_bytes());
+    row("the sample with 16 exclusions", (exclusions() + SAMPLE).as_bytes());
 }
 
 fn decide(table: &Table) {
@@ -47,6 +50,7 @@ fn decide(table: &Table) {
 
 fn compile(table: &Table) {
     compile_row(table, "the sample", SAMPLE, 0, false);
+    compile_row(table, "the sample with 16 exclusions", &(exclusions() + SAMPLE), 0, false);
     compile_row(table, "one max of 16", &(policy("max", 16, |score| score as i64) + "c 2 < p0\n"), 0, false);
     compile_row(table, "one product of 8", &(policy("mul", 8, |score| 50 + score as i64) + "c 10 >= p0\n"), 0, false);
     for rules in [8, 12, 16] {
@@ -98,6 +102,7 @@ fn read(table: &Table) {
         row(&format!("a sum of {rules} rules, no line inside"), &sum_book(rules), 1);
         row(&format!("a sum of {rules} rules, first line inside"), &sum_book(rules), u16::MAX);
     }
+    row("the sample with 16 exclusions, set 11", &(exclusions() + SAMPLE), 11);
     row("16 mentions of a sum of 12, no line inside", &many_mentions(12), 1);
     row("16 mentions of a sum of 16, no line inside", &many_mentions(16), 1);
 }
@@ -113,6 +118,8 @@ fn choice(table: &Table) {
     for rules in [4, 8, 10, 12] {
         row(&format!("a sum of {rules} and never, all sets walked"), listing(&never_book(rules)));
     }
+    // No other sets are read: 2,207 of the 65,536 hold none of the pairs.
+    row("a sum of 8, never, 16 pairs: 2,207 sets read", listing(&(exclusions() + &never_book(8))));
     row("4,095 lines, yes at set 65,535", long_listing());
     row("15 mentions of a sum of 6 and never, all walked", listing(&never_mentions(6)));
 }
@@ -127,4 +134,6 @@ fn compare(table: &Table) {
     for rules in [4, 8, 10, 12] {
         row(&format!("a sum of {rules} with itself, all sets walked"), &sum_book(rules), &sum_book(rules));
     }
+    let apart = exclusions() + &sum_book(8);
+    row("a sum of 8 with itself, 16 exclusions in each", &apart, &apart);
 }

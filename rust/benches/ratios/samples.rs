@@ -37,6 +37,11 @@ pub fn never_book(rules: usize) -> String {
     format!("{}p min\nc {} < min(p0,p1)\n", policy("sum", rules, |_| 1), rules / 2 - 1)
 }
 
+/// Sixteen exclusions: of each signal and the next one, and of the last and the first.
+pub fn exclusions() -> String {
+    (0..16).map(|signal| format!("x {signal} {}\n", (signal + 1) % 16)).collect()
+}
+
 /// 15 mentions of one sum, and again one that never lets the condition be met.
 pub fn never_mentions(rules: usize) -> String {
     format!("{}p min\nc {} < min({},p1)\n", policy("sum", rules, |_| 1), rules / 2 - 1, mentions(15, 1))

@@ -1,5 +1,6 @@
 //! The numbers themselves, written out: the code in bits 0 to 4 and the value from bit 5 on.
-//! They are the numbers of the interface that had a refusal of four bits and a bit for the second listing: none has changed.
+//! Those without an excluded pair are the numbers of the interface that had a refusal of four bits and a bit for the
+//! second listing: none has changed.
 
 use cerahupo::raw::{self, Told};
 
@@ -9,6 +10,11 @@ const SAMPLE: &[u8] = b"p sum 0\nr 0 40\nr 1 30\nr 2 30\np min 100\nr 3 20\nc 50
 const HELD: [u32; 8] = [16, 1, 2, 0, 4, 1, 0, 0];
 const NEVER: [u32; 4] = [16, 1, 0, 0];
 const ALWAYS: [u32; 4] = [19, 1, 0, 0];
+
+/// Signals 0 and 1 give yes only together, and never occur together: a book, its listing, and that without the pair.
+const APART_BOOK: &[u8] = b"x 0 1\np sum\nr 0 1\nr 1 1\nc 1 < p0\n";
+const APART: [u32; 12] = [5, 3, 0, 2, 16, 3, 3, 0, 4, 3, 0, 0];
+const TOGETHER: [u32; 8] = [16, 3, 2, 0, 4, 3, 0, 0];
 
 /// Sound words but for the second record, whose mask lies outside its policy's.
 const SECOND_RECORD_BROKEN: [u32; 8] = [16, 1, 2, 0, 4, 2, 0, 0];
@@ -35,9 +41,26 @@ fn comparisons() {
     assert_eq!(raw::compare(&NEVER, &HELD).0, 65_568);
 }
 
+/// The pair is among the records; rod and logger decide on it, choice and comparison pass over it.
+#[test]
+fn results_with_a_pair() {
+    let mut words = [0; 12];
+    assert_eq!(raw::check(APART_BOOK).0, 65_568);
+    assert_eq!(raw::compile(APART_BOOK, 0, &mut words).0, 96);
+    assert_eq!(words, APART);
+    assert_eq!(raw::compile(APART_BOOK, 0, &mut [0; 11]).0, 8);
+    assert_eq!(raw::decide(APART_BOOK, 0, 3).0, 32);
+    assert_eq!(raw::read(&APART, 3).0, 32);
+    assert_eq!(raw::choice(&APART).0, 32);
+    assert_eq!(raw::choice(&TOGETHER).0, 196_672);
+    assert_eq!(raw::compare(&APART, &NEVER).0, 0);
+    assert_eq!(raw::compare(&NEVER, &APART).0, 0);
+    assert_eq!(raw::compare(&TOGETHER, &NEVER).0, 196_704);
+}
+
 #[test]
 fn refusals_of_books() {
-    let refusals: [(&[u8], u64); 7] = [
+    let refusals: [(&[u8], u64); 11] = [
         (&[b'p'; 8193], 1),
         (&[b'p'; 129], 33),
         (b"p sum", 34),
@@ -45,6 +68,10 @@ fn refusals_of_books() {
         (b"p mul\nr 0 1\nr 1 1\nr 2 1\nr 3 1\nr 4 1\nr 5 1\nr 6 1\nr 7 1\nr 8 1\n", 324),
         (b"p sum\nr 16 1\n", 69),
         (b"p sum\nr 0 1\nr 0 1\n", 102),
+        (b"x 0 01\n", 34),
+        (b"p sum\nx 0 1\nr 0 1\n", 99),
+        (b"x 1 1\n", 37),
+        (b"x 0 1\nx 1 0\n", 70),
     ];
     for (book, number) in refusals {
         assert_eq!(raw::check(book).0, number);
@@ -58,7 +85,15 @@ fn refusals_of_books() {
 
 #[test]
 fn refusals_of_listings() {
-    for (words, number) in [(&[][..], 9), (&HELD[..7], 9), (&[5, 0, 0, 0], 42), (&SECOND_RECORD_BROKEN, 74)] {
+    let refusals: [(&[u32], u64); 6] = [
+        (&[], 9),
+        (&HELD[..7], 9),
+        (&[5, 0, 0, 0], 42),
+        (&[5, 65_537, 0, 2, 16, 1, 0, 0], 42),
+        (&APART[..4], 42),
+        (&SECOND_RECORD_BROKEN, 74),
+    ];
+    for (words, number) in refusals {
         assert_eq!(raw::read(words, 0).0, number);
         assert_eq!(raw::choice(words).0, number);
         assert_eq!(raw::compare(words, &HELD).0, number);

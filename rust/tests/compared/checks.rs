@@ -3,7 +3,7 @@
 use crate::agreed;
 use crate::inputs::random::{Random, rounds};
 use crate::inputs::{books, listings};
-use crate::reference::{listing_of, words_of};
+use crate::reference::listing_of;
 use crate::tally::Tally;
 use cerahupo::{Choice, Comparison, Declined, Listing};
 
@@ -42,13 +42,14 @@ fn choice() {
     tally.finish(&["always", "never", "both, no later", "both, yes later", "refusal 9", "refusal 10"]);
 }
 
-fn pair(random: &mut Random) -> (Vec<u32>, Vec<u32>) {
+fn two_listings(random: &mut Random) -> (Vec<u32>, Vec<u32>) {
     let nodes = listings::nodes(10, random);
     let same = listings::alike(&nodes, random);
+    let near = listings::nearly_alike(same.clone(), random);
     match random.below(8) {
-        0..2 => (words_of(&nodes), words_of(&same)),
-        2..4 => (words_of(&nodes), words_of(&listings::nearly_alike(same, random))),
-        4..6 => (words_of(&listings::nearly_alike(same, random)), words_of(&nodes)),
+        0..2 => (listings::after_pairs(&nodes, random), listings::after_pairs(&same, random)),
+        2..4 => (listings::after_pairs(&nodes, random), listings::after_pairs(&near, random)),
+        4..6 => (listings::after_pairs(&near, random), listings::after_pairs(&nodes, random)),
         6 => (compiled(random), compiled(random)),
         _ => (listing(random), listings::damaged(12, random)),
     }
@@ -59,7 +60,7 @@ fn compare() {
     let mut random = Random::of("compare");
     let mut tally = Tally::new("compare");
     for _ in 0..rounds(1_000) {
-        let (one, two) = pair(&mut random);
+        let (one, two) = two_listings(&mut random);
         tally.count(match agreed::compare(&one, &two) {
             Ok(Comparison::Alike) => "alike",
             Ok(Comparison::Differ { yes: Listing::First, .. }) => "first says yes",

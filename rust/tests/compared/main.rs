@@ -9,6 +9,7 @@ mod checks;
 mod compiling;
 mod inputs;
 mod listings;
+mod program;
 mod reference;
 mod samples;
 mod tally;

@@ -58,3 +58,13 @@ fn corners_of_single_rules() {
     assert_eq!(listing(&book), [17, 1, 0, 0]);
     assert_eq!(listing(&with("p min\n", "c 0 < p0")), [18, 0, 0, 0]);
 }
+
+/// Change request 1: the pair stands in front, the choice check passes over set 3, and rod and logger say yes on it.
+#[test]
+fn signals_apart() {
+    let book = b"x 0 1\np sum 0\nr 0 40\nr 1 30\nr 2 30\nc 50 < p0\n";
+    let words = listing(book);
+    assert_eq!(words, [5, 3, 0, 2, 16, 7, 3, 0, 4, 5, 0, 4, 4, 3, 0, 5, 4, 6, 0, 0]);
+    assert_eq!(agreed::choice(&words), Ok(Choice::Both { yes: 5, no: 0 }));
+    assert_eq!(say(book, 3), Yes);
+}

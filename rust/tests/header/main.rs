@@ -1,22 +1,24 @@
-//! The functions of `include/cerahupo.h`, compiled as C and held against the same taken from the number's digits here.
-//! It wants a C compiler, `cc` or what the variable CC names.
+//! The functions of `include/cerahupo.h`, compiled as C and held against the same taken from the number's digits here,
+//! and its calls on a book with an excluded pair. It wants a C compiler, `cc` or what the variable CC names.
 
 use std::io::Write;
 use std::path::{Path, PathBuf};
 use std::process::{Command, Stdio};
 use std::{env, fs};
 
-/// Compiles the C program beside this file, and returns where it is.
-fn built() -> PathBuf {
+/// Compiles a C program beside this file with the static library, and returns where it is.
+fn built(name: &str) -> PathBuf {
     let root = Path::new(env!("CARGO_MANIFEST_DIR"));
     let folder = PathBuf::from(env!("CARGO_TARGET_TMPDIR"));
     fs::create_dir_all(&folder).expect("cargo's folder for tests can be made");
-    let program = folder.join("told");
+    let program = folder.join(name);
     let compiler = env::var("CC").unwrap_or_else(|_| "cc".to_string());
+    let library = env::var_os("CERAHUPO_LIB").map_or(root.join("../target/staticlib"), PathBuf::from);
     let status = Command::new(compiler)
         .args(["-std=c11", "-Wall", "-Wextra", "-Werror", "-I"])
         .arg(root.join("../include"))
-        .arg(root.join("tests/header/told.c"))
+        .arg(root.join("tests/header").join(name).with_extension("c"))
+        .arg(library.join("libexports.a"))
         .arg("-o")
         .arg(&program)
         .status()
@@ -27,8 +29,11 @@ fn built() -> PathBuf {
 
 /// The C program's lines for some numbers.
 fn told(numbers: &[u64]) -> Vec<String> {
-    let mut child =
-        Command::new(built()).stdin(Stdio::piped()).stdout(Stdio::piped()).spawn().expect("the program was compiled");
+    let mut child = Command::new(built("told"))
+        .stdin(Stdio::piped())
+        .stdout(Stdio::piped())
+        .spawn()
+        .expect("the program was compiled");
     let mut input = child.stdin.take().expect("standard input is piped");
     let text: String = numbers.iter().map(|number| format!("{number}\n")).collect();
     let writer = std::thread::spawn(move || input.write_all(text.as_bytes()));
@@ -81,4 +86,15 @@ fn numbers_taken_apart_in_c() {
     for (number, line) in numbers.into_iter().zip(lines) {
         assert_eq!(line, expected(number), "{number}");
     }
+}
+
+/// The pair stands in the listing, logger and rod say yes on it, and for the choice check and the comparison it never
+/// occurs.
+#[test]
+fn a_pair_in_c() {
+    let output = Command::new(built("calls")).output().expect("the program was compiled");
+    let text = String::from_utf8(output.stdout).expect("it prints words and digits");
+    let listing = "5 3 0 2 16 3 3 0 4 3 0 0 ";
+    let told = ["1 policies, 1 conditions", "logger 1", "rod 1", "never 1", "alike 1"];
+    assert_eq!(text.lines().collect::<Vec<_>>(), [&[listing], &told[..]].concat());
 }

@@ -1,18 +1,20 @@
 -- `checks::lowest_above`: the lowest set from here on is the lowest of those sought.
 use Prim.Native.Nat.{_-_}
 use mathlib.Core.Path.{_≡_, refl, sym, _∙_}
-use Rattle.checks.specs.Checks.{lowestSince}
-use Rattle.checks.specs.Meaning.{gives}
+use Rattle.checks.specs.Checks.{gives, lowestSince}
 use Rattle.checks.proofs.Search.{found-here, found-later, found-none}
 use borrow.Author.Needs.{needs}
 use Rattle.checks.proofs.lowest_above.Statement.{statement}
 use Rattle.checks.proofs.lowest_above.Tie as tie
 
 abbrev Inv-loop : tie.InvT-loop
-Inv-loop words want set₀ set = lowestSince set (gives words want) ≡ lowestSince 1 (gives words want)
+Inv-loop words want pairs set₀ set = lowestSince set (gives words want) ≡ lowestSince 1 (gives words want)
 
 abbrev μ-loop : tie.MeasureT-loop
-μ-loop words want set₀ set = 65536 - set
+μ-loop words want pairs set₀ set = 65536 - set
+
+pair-count-requires : tie.Need-pair-count-requires Inv-loop μ-loop
+pair-count-requires c κs = search needs
 
 loop-holds : tie.Need-loop-holds Inv-loop μ-loop
 loop-holds c = refl
@@ -48,6 +50,7 @@ lowest-above-spec =
     (tie.spec
     Inv-loop
     μ-loop
+    pair-count-requires
     loop-holds
     cast-s
     gives-wanted-requires

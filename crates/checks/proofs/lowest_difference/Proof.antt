@@ -8,10 +8,16 @@ use Rattle.checks.proofs.lowest_difference.Statement.{statement}
 use Rattle.checks.proofs.lowest_difference.Tie as tie
 
 abbrev Inv-loop : tie.InvT-loop
-Inv-loop one two set₀ set = lowestSince set (differAt one two) ≡ lowestSet (differAt one two)
+Inv-loop one two pairs others set₀ set = lowestSince set (differAt one two) ≡ lowestSet (differAt one two)
 
 abbrev μ-loop : tie.MeasureT-loop
-μ-loop one two set₀ set = 65536 - set
+μ-loop one two pairs others set₀ set = 65536 - set
+
+pair-count-requires : tie.Need-pair-count-requires Inv-loop μ-loop
+pair-count-requires c κs = search needs
+
+pair-count-requires-2 : tie.Need-pair-count-requires-2 Inv-loop μ-loop
+pair-count-requires-2 c κs = search needs
 
 loop-holds : tie.Need-loop-holds Inv-loop μ-loop
 loop-holds c = from-zero _
@@ -47,6 +53,8 @@ lowest-difference-spec =
     (tie.spec
     Inv-loop
     μ-loop
+    pair-count-requires
+    pair-count-requires-2
     loop-holds
     cast-s
     differ-on-requires

@@ -2,7 +2,7 @@
 use mathlib.Core.Path.{refl, ap, _∙_}
 use Rattle.layout.specs.Records.{and, or}
 use Rattle.layout.specs.Steps.{kindMeaning}
-use Rattle.layout.proofs.Judging.{step-line, step-join, step-policy, step-unknown}
+use Rattle.layout.proofs.Judging.{step-line, step-join, step-policy, step-exclusion, step-unknown}
 use borrow.Author.Needs.{needs}
 use Rattle.layout.proofs.step_at.Statement.{statement}
 use Rattle.layout.proofs.step_at.Tie as tie
@@ -67,6 +67,21 @@ policy-step-requires c κs = search needs
 enum-told-5 : tie.Need-enum-told-5
 enum-told-5 c = search needs
 
+add-exclusion-step : tie.Need-add-exclusion-step
+add-exclusion-step c = search needs
+
+add-if-any-3 : tie.Need-add-if-any-3
+add-if-any-3 c = search needs
+
+if-any-requires-3 : tie.Need-if-any-requires-3
+if-any-requires-3 c κs = search needs
+
+exclusion-step-requires : tie.Need-exclusion-step-requires
+exclusion-step-requires c κs = search needs
+
+enum-told-6 : tie.Need-enum-told-6
+enum-told-6 c = search needs
+
 returns : tie.Need-returns
 returns c =
     let e = c .before .before in
@@ -97,6 +112,12 @@ returns-5 c =
     let k = c .before .before in
     step-unknown _ _ _ _ _ _ (k .before .record-at .ensures) (k .kind-of .ensures) (ap kindMeaning (c .enum-told5 .given .1)) refl
 
+returns-6 : tie.Need-returns-6
+returns-6 c =
+    let e = c .before .before in
+    let k = e .before .before in
+    step-exclusion _ _ _ _ _ _ (k .before .record-at .ensures) (k .kind-of .ensures) (ap kindMeaning (e .enum-told6 .given .1)) _ (c .before .if-any3 .ensures) (c .exclusion-step .ensures)
+
 pub step-at-spec : {M : Type 1} → statement M
 step-at-spec =
     tie.close
@@ -121,8 +142,14 @@ step-at-spec =
     next-node-requires
     policy-step-requires
     enum-told-5
+    enum-told-6
+    add-exclusion-step
+    add-if-any-3
+    if-any-requires-3
+    exclusion-step-requires
     returns
     returns-2
     returns-3
     returns-4
-    returns-5)
+    returns-5
+    returns-6)

@@ -2,7 +2,7 @@
 use mathlib.Core.Path.{sym, ap, _∙_}
 use Rattle.layout.specs.Records.{and, or}
 use Rattle.layout.specs.Steps.{kindMeaning}
-use Rattle.rod.proofs.Steps.{not-line, not-unknown, line-sets, values-small, past-policy, past-join, at-end}
+use Rattle.rod.proofs.Steps.{not-line, not-unknown, line-sets, values-small, past-policy, past-join, past-exclusion, at-end}
 use borrow.Author.Needs.{needs}
 use Rattle.rod.proofs.after_node.Statement.{statement}
 use Rattle.rod.proofs.after_node.Tie as tie
@@ -51,6 +51,9 @@ enum-told-3 c = search needs
 enum-told-4 : tie.Need-enum-told-4
 enum-told-4 c = search needs
 
+enum-told-5 : tie.Need-enum-told-5
+enum-told-5 c = search needs
+
 returns : tie.Need-returns
 returns c =
     let k = c .before .before .before in
@@ -85,6 +88,12 @@ returns-5 c =
     let s = m .before .before .before in
     absurd (not-unknown _ _ (s .pre .0) (s .pre .2 .node) (sym (ap kindMeaning (c .enum-told4 .given .1)) ∙ m .kind-of .ensures))
 
+returns-6 : tie.Need-returns-6
+returns-6 c =
+    let m = c .before .before in
+    let s = m .before .before .before in
+    at-end _ _ _ _ _ (s .pre .1) (past-exclusion _ _ _ _ (s .pre .0) (s .pre .2) (sym (ap kindMeaning (c .enum-told5 .given .1)) ∙ m .kind-of .ensures))
+
 pub after-node-spec : {M : Type 1} → statement M
 after-node-spec =
     tie.close
@@ -102,8 +111,10 @@ after-node-spec =
     with-join-requires-2
     enum-told-3
     enum-told-4
+    enum-told-5
     returns
     returns-2
     returns-3
     returns-4
-    returns-5)
+    returns-5
+    returns-6)

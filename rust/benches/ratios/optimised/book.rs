@@ -42,6 +42,8 @@ pub struct Condition {
 #[derive(Default)]
 pub struct Book {
     pub policies: Vec<Policy>,
+    /// The masks of the excluded pairs.
+    pub pairs: Vec<u16>,
     pub conditions: Vec<Condition>,
 }
 
@@ -85,6 +87,11 @@ impl Book {
             [b'p', b' ', ..] => {
                 self.take_policy(fields)?;
                 *rules_may_follow = true;
+                Ok(())
+            }
+            [b'x', b' ', ..] => {
+                self.take_exclusion(fields)?;
+                *rules_may_follow = false;
                 Ok(())
             }
             [b'c', b' ', ..] => {
@@ -136,6 +143,26 @@ impl Book {
         }
         policy.mask |= 1 << signal;
         policy.rules.push(Rule { signal: signal as u8, score });
+        Ok(())
+    }
+
+    fn take_exclusion(&mut self, mut fields: Cursor) -> Result<(), u8> {
+        let (first, second) = fields.signals().ok_or(2)?;
+        fields.end()?;
+        if !self.conditions.is_empty() {
+            return Err(3);
+        }
+        if self.pairs.len() == 16 {
+            return Err(4);
+        }
+        if first > 15 || second > 15 || first == second {
+            return Err(5);
+        }
+        let pair = 1 << first | 1 << second;
+        if self.pairs.contains(&pair) {
+            return Err(6);
+        }
+        self.pairs.push(pair);
         Ok(())
     }
 
@@ -195,6 +222,12 @@ impl Cursor<'_> {
         let signal = self.natural()?;
         self.byte(b' ')?;
         Some((signal, self.number()?))
+    }
+
+    fn signals(&mut self) -> Option<(i32, i32)> {
+        let first = self.natural()?;
+        self.byte(b' ')?;
+        Some((first, self.natural()?))
     }
 
     fn comparison(&mut self) -> Option<(i32, bool)> {

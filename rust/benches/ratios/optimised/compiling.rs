@@ -8,7 +8,7 @@ pub fn compile(bytes: &[u8], condition: u32, words: &mut [u32]) -> Result<u64, R
     let book = Book::read(bytes)?;
     let condition = book.condition(condition)?;
     let mut searches = [const { None }; 16];
-    let mut records = condition.parts.len();
+    let mut records = book.pairs.len() + condition.parts.len();
     for part in &condition.parts {
         if let Part::Policy(number) = *part {
             let search = || Search::new(&book.policies[number as usize], condition.threshold);
@@ -19,6 +19,9 @@ pub fn compile(bytes: &[u8], condition: u32, words: &mut [u32]) -> Result<u64, R
         return refused(8, 0);
     }
     let mut writer = Writer { words: &mut words[..4 * records], number: 1 };
+    for &pair in &book.pairs {
+        writer.put(5, pair, 0, writer.number + 1);
+    }
     for part in &condition.parts {
         match *part {
             Part::Policy(number) => {

@@ -37,6 +37,14 @@ fn check(words: &[u32]) -> Result<&[Record], Refusal> {
                 values -= 1;
                 at += 1;
             }
+            5 => {
+                let in_front = policies == 0 && at < 16 && at + 1 < records.len();
+                let pair = mask <= 65_535 && mask.count_ones() == 2;
+                if !in_front || !pair || lines != 0 || next as usize != at + 2 {
+                    return refused(10, at + 1);
+                }
+                at += 1;
+            }
             _ => return refused(10, at + 1),
         }
     }
@@ -63,6 +71,7 @@ pub fn read(words: &[u32], set: u16) -> Result<Decision, Refusal> {
         values = match kind {
             2 => join(values, |left, right| left & right),
             3 => join(values, |left, right| left | right),
+            5 => values,
             _ => {
                 let behind = if lines == 0 { &[] } else { &records[lines as usize - 1..] };
                 let own = behind.iter().take_while(|record| record[0] == 4);
@@ -88,6 +97,7 @@ fn policy_says(kind: u32, mask: u32, set: u16, mut lines: impl Iterator<Item = u
 
 /// A listing made ready for many readings.
 struct Ready {
+    pairs: Vec<u16>,
     nodes: Vec<Node>,
     lines: Vec<u16>,
 }
@@ -103,9 +113,12 @@ struct Node {
 impl Ready {
     fn new(words: &[u32]) -> Result<Ready, Refusal> {
         let records = check(words)?;
-        let mut ready = Ready { nodes: Vec::with_capacity(31), lines: Vec::with_capacity(records.len()) };
+        let lines = Vec::with_capacity(records.len());
+        let mut ready = Ready { pairs: Vec::new(), nodes: Vec::with_capacity(31), lines };
         for &[kind, mask, ..] in records {
-            if kind == 4 {
+            if kind == 5 {
+                ready.pairs.push(mask as u16);
+            } else if kind == 4 {
                 ready.lines.push(mask as u16);
                 if let Some(node) = ready.nodes.last_mut() {
                     node.to += 1;
@@ -116,6 +129,10 @@ impl Ready {
             }
         }
         Ok(ready)
+    }
+
+    fn permits(&self, set: u16) -> bool {
+        self.pairs.iter().all(|pair| pair & !set != 0)
     }
 
     fn says(&self, set: u16) -> bool {
@@ -137,7 +154,7 @@ impl Ready {
 pub fn choice(words: &[u32]) -> Result<Choice, Refusal> {
     let listing = Ready::new(words)?;
     let first = listing.says(0);
-    Ok(match (1..=u16::MAX).find(|&set| listing.says(set) != first) {
+    Ok(match (1..=u16::MAX).find(|&set| listing.permits(set) && listing.says(set) != first) {
         None if first => Choice::Always,
         None => Choice::Never,
         Some(no) if first => Choice::Both { yes: 0, no },
@@ -149,6 +166,9 @@ pub fn compare(one: &[u32], two: &[u32]) -> Result<Comparison, Declined> {
     let first = Ready::new(one).map_err(|refusal| Declined { listing: Listing::First, refusal })?;
     let second = Ready::new(two).map_err(|refusal| Declined { listing: Listing::Second, refusal })?;
     for set in 0..=u16::MAX {
+        if !first.permits(set) || !second.permits(set) {
+            continue;
+        }
         let yes = first.says(set);
         if yes != second.says(set) {
             let yes = if yes { Listing::First } else { Listing::Second };

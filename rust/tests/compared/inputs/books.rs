@@ -26,7 +26,15 @@ pub fn valid(random: &mut Random) -> Vec<u8> {
     };
     let mut text = String::new();
     let count = if random.one_in(16) { 0 } else { 1 + random.mostly_few(15) };
-    let policies: Vec<Policy> = (0..count).map(|_| put_policy(&mut text, style, random)).collect();
+    let mut exclusions = exclusions(random);
+    let mut policies = Vec::new();
+    for _ in 0..count {
+        while random.one_in(3) {
+            text += &exclusions.pop().unwrap_or_default();
+        }
+        policies.push(put_policy(&mut text, style, random));
+    }
+    text += &exclusions.concat();
     if !policies.is_empty() {
         let conditions = if random.one_in(8) { 0 } else { 1 + random.mostly_few(7) };
         for _ in 0..conditions {
@@ -34,6 +42,15 @@ pub fn valid(random: &mut Random) -> Vec<u8> {
         }
     }
     text.into_bytes()
+}
+
+/// Lines of different pairs, each in either order.
+fn exclusions(random: &mut Random) -> Vec<String> {
+    let mut pairs: Vec<(u32, u32)> = (0..16).flat_map(|b| (0..b).map(move |a| (a, b))).collect();
+    random.shuffle(&mut pairs);
+    pairs.truncate(if random.one_in(2) { 0 } else { random.mostly_few(16) });
+    let line = |(a, b)| if random.one_in(2) { format!("x {a} {b}\n") } else { format!("x {b} {a}\n") };
+    pairs.into_iter().map(line).collect()
 }
 
 fn put_policy(text: &mut String, style: Style, random: &mut Random) -> Policy {

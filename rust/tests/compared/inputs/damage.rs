@@ -2,6 +2,7 @@
 
 use super::books::{expression, valid};
 use super::random::Random;
+use std::ops::Range;
 
 /// A valid book with one to three things done to it; some of them do no harm.
 pub fn damaged(random: &mut Random) -> Vec<u8> {
@@ -20,9 +21,9 @@ pub fn damaged(random: &mut Random) -> Vec<u8> {
 
 /// Words of books in any order.
 pub fn soup(random: &mut Random) -> Vec<u8> {
-    const WORDS: &str =
-        "p |r |c |p|min|max|sum|mul|min(|,|)|p0|p1|<|>=| |0|1|15|16|-|100|\n|\n|\np sum\n|r 1 1\n|c 0 < p0\n|\r";
-    let words: Vec<&str> = WORDS.split('|').collect();
+    const WORDS: &str = "p |r |x |c |p|min|max|sum|mul|min(|,|)|p0|p1|<|>=| |0|1|15|16|-|100|\n|\n|\r";
+    const LINES: &str = "\np sum\n|r 1 1\n|x 0 1\n|x 1 0\n|c 0 < p0\n";
+    let words: Vec<&str> = [WORDS, LINES].iter().flat_map(|text| text.split('|')).collect();
     (0..random.below(20)).flat_map(|_| random.pick(&words).bytes()).collect()
 }
 
@@ -47,7 +48,7 @@ fn lines_of(book: &[u8]) -> Vec<Vec<u8>> {
 /// A field at or beside a limit, misspelled, or of another kind of line.
 fn random_field(random: &mut Random) -> &'static str {
     const NUMBERS: &str = "0|-1|1|7|15|16|17|100|101|-100|9999|10000|10001|-10000|-10001|200000|200001|-200000|-200001";
-    const SPELLINGS: &str = "-0|00|01|999999|-999999|1000000|0000000|+1||-";
+    const SPELLINGS: &str = "-0|00|01|1.0|999999|-999999|1000000|0000000|+1||-";
     const WORDS: &str = "min|max|sum|mul|<|>=|<=|p0|p15|p16|min(p0,p999999)";
     let fields: Vec<&str> = [NUMBERS, SPELLINGS, WORDS].iter().flat_map(|text| text.split('|')).collect();
     fields[random.below(fields.len())]
@@ -73,6 +74,7 @@ fn damage_field(book: Vec<u8>, random: &mut Random) -> Vec<u8> {
 }
 
 fn damage_lines(book: Vec<u8>, random: &mut Random) -> Vec<u8> {
+    const LINES: &str = "\n|r 3 1\n|p mul\n|x 2 1\n|x 3 3\n|x 16 2\n|x 2 16\n|c 0 < p0\n|c 1 >= p16\n";
     let mut lines = lines_of(&book);
     if lines.is_empty() {
         return b"\n".to_vec();
@@ -83,8 +85,10 @@ fn damage_lines(book: Vec<u8>, random: &mut Random) -> Vec<u8> {
         1 => drop(lines.remove(one)),
         2 => lines.insert(one, lines[two].clone()),
         3 => lines.insert(one + 1, lines[one].clone()),
-        _ => lines
-            .insert(one, random.pick(&["\n", "r 3 1\n", "p mul\n", "c 0 < p0\n", "c 1 >= p16\n"]).as_bytes().to_vec()),
+        _ => {
+            let new: Vec<&str> = LINES.split('|').collect();
+            lines.insert(one, random.pick(&new).as_bytes().to_vec());
+        }
     }
     lines.concat()
 }
@@ -111,16 +115,20 @@ fn nested_line(length: usize, random: &mut Random) -> Vec<u8> {
     format!("c {threshold} < {set}").into_bytes()
 }
 
-/// Puts lines in front until a limit is nearly reached, reached or passed by one.
+/// Puts lines in until a limit is nearly reached, reached or passed by one.
 fn too_many(book: Vec<u8>, random: &mut Random) -> Vec<u8> {
     let lines = lines_of(&book);
     let held = |letter: u8| lines.iter().filter(|line| line.first() == Some(&letter)).count();
     let near = |limit: usize, random: &mut Random| limit - 1 + random.below(3);
-    let front = match random.below(3) {
+    let front = match random.below(4) {
         0 => "p sum 5\n".repeat(near(16, random).saturating_sub(held(b'p'))),
         1 => {
             let more = near(8, random).saturating_sub(held(b'c'));
             return [book, "c 3 < p0\n".repeat(more).into_bytes()].concat();
+        }
+        2 => {
+            let more = held(b'x')..near(16, random);
+            return with_exclusions(lines, more, random);
         }
         _ => {
             let operator = random.pick(&["min", "max", "sum", "mul", "mul", "mul"]);
@@ -129,6 +137,18 @@ fn too_many(book: Vec<u8>, random: &mut Random) -> Vec<u8> {
         }
     };
     [front.into_bytes(), book].concat()
+}
+
+/// Puts exclusions in front or before the first condition; the last one may also be out of range, or repeat a pair.
+fn with_exclusions(mut lines: Vec<Vec<u8>>, numbers: Range<usize>, random: &mut Random) -> Vec<u8> {
+    let mut more: Vec<String> = numbers.map(|pair| format!("x {} {}\n", pair % 4, 4 + pair / 4)).collect();
+    if random.one_in(2) && more.pop().is_some() {
+        more.push(random.pick(&["x 3 3\n", "x 16 2\n", "x 2 16\n", "x 4 0\n"]).to_string());
+    }
+    let before_conditions = lines.iter().position(|line| line.starts_with(b"c")).unwrap_or(lines.len());
+    let place = if random.one_in(2) { 0 } else { before_conditions };
+    lines.splice(place..place, more.into_iter().map(String::into_bytes));
+    lines.concat()
 }
 
 /// Fills a book up to about 8,192 bytes.

@@ -5,7 +5,20 @@ use crate::reference::{Node, words_of};
 
 /// A sound listing of at most so many lines a policy.
 pub fn sound(most_lines: usize, random: &mut Random) -> Vec<u32> {
-    words_of(&nodes(most_lines, random))
+    let nodes = nodes(most_lines, random);
+    after_pairs(&nodes, random)
+}
+
+/// The listing of nodes after excluded pairs, or after none.
+pub fn after_pairs(nodes: &[Node], random: &mut Random) -> Vec<u32> {
+    let count = if random.one_in(2) { 0 } else { random.mostly_few(16) };
+    let pairs: Vec<u32> = (0..count).map(|_| pair(random)).collect();
+    words_of(&pairs, nodes)
+}
+
+fn pair(random: &mut Random) -> u32 {
+    let (first, step) = (random.below(16), 1 + random.below(15));
+    1 << first | 1 << ((first + step) % 16)
 }
 
 /// Nodes in the order left, right, join: each join takes two earlier values, one remains.
@@ -107,8 +120,8 @@ pub fn damaged(most_lines: usize, random: &mut Random) -> Vec<u32> {
 /// Records of any kind, fields as they would have to be, but for one word or none.
 pub fn soup(random: &mut Random) -> Vec<u32> {
     let kinds = [2, 2, 3, 4, 4, 4, 16, 17, 18, 19, 16, 17, 18, 19, *random.pick(&[0, 1, 5, 15, 20, 32, u32::MAX, 4])];
-    let first = [*random.pick(&[16, 17, 18, 19, 16, 17, 18, 19, 4]), random.next() as u32 & 0xffff, 0, 0];
-    let mut records = vec![first];
+    let mask = if random.one_in(4) { pair(random) } else { random.next() as u32 & 0xffff };
+    let mut records = vec![[*random.pick(&[16, 17, 18, 19, 16, 17, 18, 19, 4, 5]), mask, 0, 0]];
     let most = *random.pick(&[4, 12, 40]);
     for _ in 0..random.below(most) {
         let mask = *random.pick(&[0, 1, 3, 0xffff]);
@@ -136,7 +149,8 @@ fn damage_records(records: &mut Vec<[u32; 4]>, random: &mut Random) {
         2 => records.swap(one, two),
         3 => records.push([*random.pick(&[2, 3, 4, 16]), 0, 0, 0]),
         4 => records[one][0] = *random.pick(&[0, 1, 2, 3, 4, 5, 16, 19, 20]),
-        5 => records.extend([[17, 1, 0, 0]; 15]),
+        5 if random.one_in(2) => records.extend([[17, 1, 0, 0]; 15]),
+        5 => drop(records.splice(0..0, vec![[5, 3, 0, 0]; random.below(18)])),
         6 => drop(records.pop()),
         _ => damage_word(records, random),
     }
@@ -150,10 +164,11 @@ fn damage_word(records: &mut [[u32; 4]], random: &mut Random) {
     let number = place as u32 + 1;
     let field = random.below(4);
     let word = &mut records[place][field];
-    *word = match random.below(4) {
+    *word = match random.below(5) {
         0 => *random.pick(&[0, number, number + 1, number + 2, 65_535, 65_536, u32::MAX]),
         1 => *word ^ 1 << random.below(32),
-        2 => word.wrapping_add(1),
+        2 => word.rotate_left(random.below(32) as u32),
+        3 => word.wrapping_add(1),
         _ => word.wrapping_sub(1),
     };
 }
@@ -170,6 +185,7 @@ fn repair(records: &mut [[u32; 4]]) {
         let [kind, mask, ..] = records[place];
         records[place] = match kind {
             4 => [4, mask & policy, 0, line],
+            5 => [5, mask, 0, following],
             16..=19 => [kind, mask & 0xffff, line, node],
             _ => [kind, 0, 0, following],
         };

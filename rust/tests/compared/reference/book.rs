@@ -45,12 +45,14 @@ pub struct Condition {
 #[derive(Default)]
 pub struct Book {
     pub policies: Vec<Policy>,
+    pub exclusions: Vec<[i64; 2]>,
     pub conditions: Vec<Condition>,
 }
 
 enum Form {
     Policy(Policy),
     Rule(Rule),
+    Exclusion([i64; 2]),
     Condition(Condition),
 }
 
@@ -81,6 +83,10 @@ fn take_line(book: &mut Book, rule_may_follow: bool, line: &[u8]) -> Result<bool
         Form::Policy(policy) => add_policy(book, policy)?,
         Form::Rule(rule) if rule_may_follow => add_rule(book.policies.last_mut().ok_or(3)?, rule)?,
         Form::Rule(_) => return Err(3),
+        Form::Exclusion(signals) => {
+            add_exclusion(book, signals)?;
+            return Ok(false);
+        }
         Form::Condition(condition) => {
             add_condition(book, condition)?;
             return Ok(false);
@@ -107,6 +113,16 @@ fn add_rule(policy: &mut Policy, rule: Rule) -> Result<(), u8> {
     refuse_if(rule.signal > 15 || !scores.contains(&rule.score), 5)?;
     refuse_if(policy.rules.iter().any(|other| other.signal == rule.signal), 6)?;
     policy.rules.push(rule);
+    Ok(())
+}
+
+fn add_exclusion(book: &mut Book, signals: [i64; 2]) -> Result<(), u8> {
+    let [first, second] = signals;
+    refuse_if(!book.conditions.is_empty(), 3)?;
+    refuse_if(book.exclusions.len() == 16, 4)?;
+    refuse_if(first > 15 || second > 15 || first == second, 5)?;
+    refuse_if(book.exclusions.contains(&[first, second]) || book.exclusions.contains(&[second, first]), 6)?;
+    book.exclusions.push(signals);
     Ok(())
 }
 
@@ -137,6 +153,7 @@ fn form(line: &[u8]) -> Option<Form> {
         ["p", name] => policy(name, 0),
         ["p", name, default] => policy(name, number(default)?),
         ["r", signal, score] => Some(Form::Rule(Rule { signal: natural(signal)?, score: number(score)? })),
+        ["x", first, second] => Some(Form::Exclusion([natural(first)?, natural(second)?])),
         ["c", threshold, "<", set] => condition(threshold, Sense::Less, set),
         ["c", threshold, ">=", set] => condition(threshold, Sense::AtMost, set),
         _ => None,

@@ -22,17 +22,32 @@ impl Tree {
     }
 }
 
+/// A sound listing: the pairs that it excludes, and its tree.
+pub struct Sound {
+    pub pairs: Vec<u32>,
+    pub tree: Tree,
+}
+
+impl Sound {
+    /// The set holds no excluded pair.
+    pub fn permits(&self, set: u16) -> bool {
+        self.pairs.iter().all(|pair| pair & u32::from(set) != *pair)
+    }
+}
+
 type Record = [u32; 4];
 
-/// What the records so far leave: trees that no join has taken, and the mask of the policy that a line here belongs to.
+/// What the records so far leave: excluded pairs, trees that no join has taken, and the mask of the policy that a line
+/// here belongs to.
 #[derive(Default)]
 struct SoFar {
+    pairs: Vec<u32>,
     values: Vec<Tree>,
     owner: Option<u32>,
 }
 
-/// The tree of a sound listing, or its refusal.
-pub fn take(words: &[u32]) -> Result<Tree, Refusal> {
+/// A sound listing, or its refusal.
+pub fn take(words: &[u32]) -> Result<Sound, Refusal> {
     let (records, []) = words.as_chunks::<4>() else { return refused(9, 0) };
     if records.is_empty() {
         return refused(9, 0);
@@ -44,7 +59,7 @@ pub fn take(words: &[u32]) -> Result<Tree, Refusal> {
         }
     }
     match so_far.values.pop() {
-        Some(tree) if so_far.values.is_empty() => Ok(tree),
+        Some(tree) if so_far.values.is_empty() => Ok(Sound { pairs: so_far.pairs, tree }),
         _ => refused(10, records.len()),
     }
 }
@@ -55,6 +70,7 @@ fn take_record(records: &[Record], place: usize, so_far: &mut SoFar) -> Option<(
         4 => take_line(records, place, so_far.owner?),
         16..=19 => take_policy(records, place, so_far),
         2 | 3 => take_join(records, place, so_far),
+        5 => take_pair(records, place, so_far),
         _ => None,
     }
 }
@@ -83,6 +99,16 @@ fn take_join(records: &[Record], place: usize, so_far: &mut SoFar) -> Option<()>
     let (right, left) = (Box::new(so_far.values.pop()?), Box::new(so_far.values.pop()?));
     so_far.owner = None;
     so_far.values.push(if kind == 2 { Tree::And(left, right) } else { Tree::Or(left, right) });
+    Some(())
+}
+
+/// A pair stands below pairs alone, and has a record after it.
+fn take_pair(records: &[Record], place: usize, so_far: &mut SoFar) -> Option<()> {
+    let [_, mask, lines, next] = records[place];
+    require(so_far.pairs.len() == place && place < 16)?;
+    require(mask <= 65_535 && mask.count_ones() == 2)?;
+    require(lines == 0 && next as usize == place + 2 && place + 1 < records.len())?;
+    so_far.pairs.push(mask);
     Some(())
 }
 

@@ -51,18 +51,12 @@ pub fn listing_of(bytes: &[u8], condition: u32) -> Result<Vec<u32>, Refusal> {
 }
 
 pub fn read(words: &[u32], set: u16) -> Result<Decision, Refusal> {
-    Ok(decision(listing::take(words)?.says(set)))
-}
-
-/// The rod's answer on each of the 65,536 sets.
-pub fn read_all(words: &[u32]) -> Result<Vec<bool>, Refusal> {
-    let tree = listing::take(words)?;
-    Ok((0..=u16::MAX).map(|set| tree.says(set)).collect())
+    Ok(decision(listing::take(words)?.tree.says(set)))
 }
 
 pub fn choice(words: &[u32]) -> Result<Choice, Refusal> {
-    let answers = read_all(words)?;
-    let lowest = |wanted: bool| answers.iter().position(|&yes| yes == wanted).map(|set| set as u16);
+    let listing = listing::take(words)?;
+    let lowest = |wanted| (0..=u16::MAX).find(|&set| listing.permits(set) && listing.tree.says(set) == wanted);
     Ok(match (lowest(true), lowest(false)) {
         (Some(yes), Some(no)) => Choice::Both { yes, no },
         (Some(_), None) => Choice::Always,
@@ -71,13 +65,14 @@ pub fn choice(words: &[u32]) -> Result<Choice, Refusal> {
 }
 
 pub fn compare(one: &[u32], two: &[u32]) -> Result<Comparison, Declined> {
-    let first = read_all(one).map_err(|refusal| Declined { listing: Listing::First, refusal })?;
-    let second = read_all(two).map_err(|refusal| Declined { listing: Listing::Second, refusal })?;
-    Ok(match (0..first.len()).find(|&set| first[set] != second[set]) {
+    let first = listing::take(one).map_err(|refusal| Declined { listing: Listing::First, refusal })?;
+    let second = listing::take(two).map_err(|refusal| Declined { listing: Listing::Second, refusal })?;
+    let permitted = |set| first.permits(set) && second.permits(set);
+    Ok(match (0..=u16::MAX).find(|&set| permitted(set) && first.tree.says(set) != second.tree.says(set)) {
         None => Comparison::Alike,
         Some(set) => {
-            let yes = if first[set] { Listing::First } else { Listing::Second };
-            Comparison::Differ { set: set as u16, yes }
+            let yes = if first.tree.says(set) { Listing::First } else { Listing::Second };
+            Comparison::Differ { set, yes }
         }
     })
 }

@@ -12,12 +12,16 @@ pub enum Node {
 pub fn listing(book: &Book, condition: &Condition) -> Vec<u32> {
     let mut nodes = Vec::new();
     put_nodes(book, condition, &condition.expression, &mut nodes);
-    words_of(&nodes)
+    let pairs: Vec<u32> = book.exclusions.iter().map(|[first, second]| (1 << first) + (1 << second)).collect();
+    words_of(&pairs, &nodes)
 }
 
-/// The words of nodes that stand in the order left, right, join.
-pub fn words_of(nodes: &[Node]) -> Vec<u32> {
+/// The words of excluded pairs, and of nodes that stand in the order left, right, join.
+pub fn words_of(pairs: &[u32], nodes: &[Node]) -> Vec<u32> {
     let mut records: Vec<[u32; 4]> = Vec::new();
+    for pair in pairs {
+        records.push([5, *pair, 0, records.len() as u32 + 2]);
+    }
     for (place, node) in nodes.iter().enumerate() {
         put_records(node, place + 1 == nodes.len(), &mut records);
     }

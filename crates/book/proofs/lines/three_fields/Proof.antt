@@ -3,7 +3,7 @@ use mathlib.Core.Path.{_≡_, sym, ap, _∙_}
 use mir.Syntax.{w32}
 use mir.Val.{toZ, ofZ}
 use borrow.Author.Needs.{needs}
-use Rattle.book.specs.Forms.{fullPolicy, ruleLine, formOf}
+use Rattle.book.specs.Forms.{fullPolicy, ruleLine, exclusionLine, formOf}
 use Rattle.book.specs.Spelling.{naturalMeaning, numberMeaning, operatorMeaning}
 use Rattle.book.proofs.lines.three_fields.Statement.{statement}
 use Rattle.book.proofs.lines.three_fields.Tie as tie
@@ -128,11 +128,77 @@ returns-6 c =
       tt,
     )
 
+slice-aggregate-same-3 : tie.Need-slice-aggregate-same-3
+slice-aggregate-same-3 c = search needs
+
+same-requires-3 : tie.Need-same-requires-3
+same-requires-3 c κs = search needs
+
+read-natural-requires-2 : tie.Need-read-natural-requires-2
+read-natural-requires-2 c κs = search needs
+
+enum-known-first : tie.Need-enum-known-first
+enum-known-first c = search needs
+
+enum-told-5 : tie.Need-enum-told-5
+enum-told-5 c = search needs
+
 returns-7 : tie.Need-returns-7
-unfolding formOf
+unfolding formOf exclusionLine
 returns-7 c =
-    let not-p = c .before .before .before in
-    λ line. (rw (sym (not-p .before .same .ensures) ∙ not-p .if1 .left, sym (c .before .same2 .ensures) ∙ c .if2 .left), tt)
+    let read = c .before .before in
+    let x = read .before in
+    let not-r = x .before .before .before in
+    let not-p = not-r .before .before .before in
+    λ line. (
+      rw (sym (not-p .before .same .ensures) ∙ not-p .if1 .left, sym (not-r .before .same2 .ensures) ∙ not-r .if2 .left, sym (x .before .same3 .ensures) ∙ x .if3 .taken, sym (read .read-natural2 .ensures) ∙ ap naturalMeaning (c .enum-told5 .given .1)),
+      tt,
+    )
+
+read-natural-requires-3 : tie.Need-read-natural-requires-3
+read-natural-requires-3 c κs = search needs
+
+enum-known-other : tie.Need-enum-known-other
+enum-known-other c = search needs
+
+enum-told-6 : tie.Need-enum-told-6
+enum-told-6 c = search needs
+
+returns-8 : tie.Need-returns-8
+unfolding formOf exclusionLine
+returns-8 c =
+    let read-2 = c .before .before in
+    let found = read-2 .before .before in
+    let read = found .before .before in
+    let x = read .before in
+    let not-r = x .before .before .before in
+    let not-p = not-r .before .before .before in
+    λ line. (
+      rw (sym (not-p .before .same .ensures) ∙ not-p .if1 .left, sym (not-r .before .same2 .ensures) ∙ not-r .if2 .left, sym (x .before .same3 .ensures) ∙ x .if3 .taken, sym (read .read-natural2 .ensures) ∙ ap naturalMeaning (found .first .given .1), sym (read-2 .read-natural3 .ensures) ∙ ap naturalMeaning (c .enum-told6 .given .1)),
+      tt,
+    )
+
+returns-9 : tie.Need-returns-9
+unfolding formOf exclusionLine
+returns-9 c =
+    let found-2 = c .before in
+    let read-2 = found-2 .before .before in
+    let found = read-2 .before .before in
+    let read = found .before .before in
+    let x = read .before in
+    let not-r = x .before .before .before in
+    let not-p = not-r .before .before .before in
+    λ line. (
+      rw (sym (not-p .before .same .ensures) ∙ not-p .if1 .left, sym (not-r .before .same2 .ensures) ∙ not-r .if2 .left, sym (x .before .same3 .ensures) ∙ x .if3 .taken, sym (read .read-natural2 .ensures) ∙ ap naturalMeaning (found .first .given .1), sym (read-2 .read-natural3 .ensures) ∙ ap naturalMeaning (found-2 .other .given .1)),
+      tt,
+    )
+
+returns-10 : tie.Need-returns-10
+unfolding formOf
+returns-10 c =
+    let not-r = c .before .before .before in
+    let not-p = not-r .before .before .before in
+    λ line. (rw (sym (not-p .before .same .ensures) ∙ not-p .if1 .left, sym (not-r .before .same2 .ensures) ∙ not-r .if2 .left, sym (c .before .same3 .ensures) ∙ c .if3 .left), tt)
 
 pub three-fields-spec : {M : Type 1} → statement M
 three-fields-spec =
@@ -160,4 +226,15 @@ three-fields-spec =
     enum-told-4
     returns-5
     returns-6
-    returns-7)
+    slice-aggregate-same-3
+    same-requires-3
+    read-natural-requires-2
+    enum-known-first
+    enum-told-5
+    returns-7
+    read-natural-requires-3
+    enum-known-other
+    enum-told-6
+    returns-8
+    returns-9
+    returns-10)

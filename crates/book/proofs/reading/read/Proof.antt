@@ -27,7 +27,7 @@ module _ (c : tie.After-next-byte Inv-loop μ-loop) where
   turn = c .before .before
 
   abbrev text : List ℕ
-  text = now (turn .before .before .before .before .args .bytes)
+  text = now (turn .before .before .before .before .before .before .args .bytes)
 
   line-within : c .next-byte .result ≤ length text
   line-within = end-within 10 text (turn .loop .at) _ (omega arith) (c .next-byte .ensures)
@@ -45,8 +45,11 @@ refused-requires c κs = search needs
 returns : tie.Need-returns Inv-loop μ-loop
 returns c = tells-refusal _ TooLong 0 _ _ (read-too-long _ (sym (c .before .before .book-fits .ensures) ∙ not-true _ (c .before .if1 .taken))) (c .refused .ensures)
 
+put-nothing-requires : tie.Need-put-nothing-requires Inv-loop μ-loop
+put-nothing-requires c κs = search needs
+
 loop-holds : tie.Need-loop-holds Inv-loop μ-loop
-loop-holds c = (omega arith, start _ _ (short c))
+loop-holds c = (omega arith, start _ _ (short (c .before .before)) (c .put-nothing .ensures))
 
 next-byte-requires : tie.Need-next-byte-requires Inv-loop μ-loop
 next-byte-requires c κs = omega arith
@@ -88,7 +91,7 @@ add-at : tie.Need-add-at Inv-loop μ-loop
 add-at c = omega (arith, line-within (c .before .before .before .before .before .before))
 
 add-line : tie.Need-add-line Inv-loop μ-loop
-add-line c = let x = c .before .before .before .before .before .before in let l = turn x in omega (arith, l .loop .inv .0, leb-true (length (text x)) 8192 (short (l .before)))
+add-line c = let x = c .before .before .before .before .before .before in let l = turn x in omega (arith, l .loop .inv .0, leb-true (length (text x)) 8192 (short (l .before .before .before)))
 
 loop-less : tie.Need-loop-less Inv-loop μ-loop
 loop-less c =
@@ -119,6 +122,7 @@ read-spec =
     book-fits-requires
     refused-requires
     returns
+    put-nothing-requires
     loop-holds
     next-byte-requires
     sub-take-line

@@ -1,5 +1,5 @@
 -- `book::storing::put_condition`: the first three cells of the condition are written, and then a code at each turn.
-use Prim.Native.Nat.{ℕ, _+_, _-_, _*_, _≤_}
+use Prim.Native.Nat.{ℕ, _-_, _≤_}
 use mathlib.Core.List.{List}
 use mathlib.Core.Path.{_≡_, ap, subst, _∙_}
 use native.Mathlib.Omega.{arith}
@@ -10,7 +10,7 @@ use lib.ListN.{length, getD, set}
 use mir.Syntax.{w32}
 use mir.Val.{SFits, toZ, ofZ}
 use mir.ValLaws.{toZ-pos, toZ-ofZ}
-use Rattle.book.specs.Cells.{senseCode}
+use Rattle.book.specs.Cells.{senseCode, senseCell, thresholdCell, lengthCell, cellCount}
 use Rattle.book.proofs.StoringLaws.{CodesSoFar, no-codes, code-more, held-small, c-one-length, c-two-length, c-three-length, condition-put}
 use Rattle.book.proofs.storing.put_condition.Statement.{statement}
 use Rattle.book.proofs.storing.put_condition.Tie as tie
@@ -21,7 +21,7 @@ Inv-loop k threshold codes n code all₀ i₀ all i = (i ≤ n) × CodesSoFar al
 abbrev μ-loop : tie.MeasureT-loop
 μ-loop k threshold codes n code all₀ i₀ all i = n - i
 
-long : (c : tie.After-all Inv-loop μ-loop) → length (now (c .before .before .args .cells)) ≡ 848
+long : (c : tie.After-all Inv-loop μ-loop) → length (now (c .before .before .args .cells)) ≡ cellCount
 long c = search needs
 
 -- what is written, as it is read back
@@ -38,9 +38,9 @@ count c = toZ w32 (c .before .before .args .n)
 abbrev first : tie.After-all Inv-loop μ-loop → List ℤ
 first c =
     let s = c .before .before in
-    set (set (set (now (s .args .cells)) (s .args .k * 34 + 576) (code c)) (s .args .k * 34 + 577) (threshold c)) (s .args .k * 34 + 578) (count c)
+    set (set (set (now (s .args .cells)) (senseCell (s .args .k)) (code c)) (thresholdCell (s .args .k)) (threshold c)) (lengthCell (s .args .k)) (count c)
 
-first-long : (c : tie.After-all Inv-loop μ-loop) → length (first c) ≡ 848
+first-long : (c : tie.After-all Inv-loop μ-loop) → length (first c) ≡ cellCount
 first-long c = let s = c .before .before in c-three-length (now (s .args .cells)) (s .args .k) (code c) (threshold c) (count c) ∙ long c
 
 sense-code-requires : tie.Need-sense-code-requires Inv-loop μ-loop

@@ -8,11 +8,12 @@ use lib.ListN.{length}
 use mir.Syntax.{w32}
 use mir.Val.{SFits, toZ, ofZ}
 use mir.ValLaws.{toZ-ofZ}
+use Rattle.book.specs.Cells.{cellCount}
 use Rattle.book.proofs.StoringLaws.{p-one-length, p-two-length, p-three-length, policy-put}
 use Rattle.book.proofs.storing.put_policy.Statement.{statement}
 use Rattle.book.proofs.storing.put_policy.Tie as tie
 
-long : (c : tie.After-all) → length (now (c .before .before .args .cells)) ≡ 848
+long : (c : tie.After-all) → length (now (c .before .before .args .cells)) ≡ cellCount
 long c = search needs
 
 -- what is written, as it is read back

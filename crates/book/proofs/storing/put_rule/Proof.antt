@@ -12,6 +12,7 @@ use mir.Val.{Fits, SFits, toZ, ofZ}
 use mir.ValLaws.{toZ-pos, toZ-ofZ}
 use Rattle.signals.proofs.SetOfLaws.{set-below}
 use Rattle.book.specs.Acceptance.{lastPolicy}
+use Rattle.book.specs.Cells.{cellCount}
 use Rattle.book.proofs.StoringLaws.{r-one-length, r-two-length, r-three-length, last-held, rule-put}
 use Rattle.book.proofs.storing.put_rule.Statement.{statement}
 use Rattle.book.proofs.storing.put_rule.Tie as tie
@@ -19,7 +20,7 @@ use Rattle.book.proofs.storing.put_rule.Tie as tie
 abbrev start : tie.After-all → tie.Start
 start c = c .before .before .before .before .before .before
 
-long : (c : tie.After-all) → length (now (start c .args .cells)) ≡ 848
+long : (c : tie.After-all) → length (now (start c .args .cells)) ≡ cellCount
 long c = search needs
 
 -- the number of rules so far

@@ -1,10 +1,10 @@
 -- `compiler::nodes::count_records`: the records before node i, and the lines of each of those nodes.
-use Prim.Native.Nat.{_-_, _*_, _≤_, _<_}
+use Prim.Native.Nat.{_+_, _-_, _*_, _≤_, _<_}
 use mathlib.Core.Path.{_≡_}
 use native.Mathlib.Omega.{arith}
 use denote.Ref.{now}
 use Rattle.book.specs.Ranges.{ConditionKept}
-use Rattle.book.proofs.CellLaws.{condition-held, codes-few}
+use Rattle.book.proofs.CellLaws.{condition-held, exclusions-kept, codes-few}
 use Rattle.compiler.specs.Nodes.{linesIn, nodeAt, CountsUpTo}
 use Rattle.compiler.proofs.KeptNodes.{size, lines-few}
 use Rattle.compiler.proofs.TurnLaws.{cells-more, CountedTo, count-start, count-turn, count-end}
@@ -13,7 +13,7 @@ use Rattle.compiler.proofs.nodes.count_records.Tie as tie
 
 abbrev Inv-loop : tie.InvT-loop
 Inv-loop cells n lines₀ all records₀ i₀ lines records i =
-    (i ≤ all) × (records ≤ i * 65537) × ((h : ConditionKept cells n) → CountedTo h i records) × CountsUpTo cells n lines i
+    (i ≤ all) × (records ≤ 16 + i * 65537) × ((h : ConditionKept cells n) → CountedTo h i records) × CountsUpTo cells n lines i
 
 abbrev μ-loop : tie.MeasureT-loop
 μ-loop cells n lines₀ all records₀ i₀ lines records i = all - i
@@ -21,8 +21,16 @@ abbrev μ-loop : tie.MeasureT-loop
 length-at-requires : tie.Need-length-at-requires Inv-loop μ-loop
 length-at-requires c κs = c .pre
 
+exclusion-count-requires : tie.Need-exclusion-count-requires Inv-loop μ-loop
+exclusion-count-requires c κs = exclusions-kept (c .before .pre)
+
 loop-holds : tie.Need-loop-holds Inv-loop μ-loop
-loop-holds c = (omega arith, omega arith, λ h. count-start h, λ h j l. absurd (omega arith))
+loop-holds c = (
+  omega arith,
+  omega (arith, c .exclusion-count .ensures (c .before .before .pre .book .exclusions) (c .before .before .pre .held .exclusions), c .before .before .pre .range .exclusionsRoom),
+  λ h. count-start h _ (c .exclusion-count .ensures (h .book .exclusions) (h .held .exclusions)),
+  λ h j l. absurd (omega arith),
+)
 
 -- how many nodes there are
 all : (c : tie.After-length-at Inv-loop μ-loop) (h : ConditionKept (now (c .before .args .cells)) (c .before .args .n)) → c .length-at .result ≡ size h
@@ -34,10 +42,10 @@ module _ (c : tie.In-loop Inv-loop μ-loop) where
   turn = c .before
 
   abbrev start : tie.Start Inv-loop μ-loop
-  start = turn .before .before
+  start = turn .before .before .before
 
   inside : (h : ConditionKept (now (start .args .cells)) (start .args .n)) → turn .loop .i < size h
-  inside h = omega (arith, c .loop-test .taken, all (turn .before) h)
+  inside h = omega (arith, c .loop-test .taken, all (turn .before .before) h)
 
   cell : turn .loop .i < 31
   cell = omega (arith, inside (start .pre), codes-few (start .pre))
@@ -81,10 +89,10 @@ loop-again c =
 returns : tie.Need-returns Inv-loop μ-loop
 returns c =
     let l = c .before in
-    let k = l .before .before .pre in (
-      omega (arith, l .loop .inv .0, l .loop .inv .1, all (l .before) k, codes-few k),
-      λ h. count-end h (l .loop .i) (omega (arith, c .loop-test .left, all (l .before) h)) (l .loop .records) (l .loop .inv .2 h),
-      λ h j i. l .loop .inv .3 h j (omega (arith, c .loop-test .left, all (l .before) h)),
+    let k = l .before .before .before .pre in (
+      omega (arith, l .loop .inv .0, l .loop .inv .1, all (l .before .before) k, codes-few k),
+      λ h. count-end h (l .loop .i) (omega (arith, c .loop-test .left, all (l .before .before) h)) (l .loop .records) (l .loop .inv .2 h),
+      λ h j i. l .loop .inv .3 h j (omega (arith, c .loop-test .left, all (l .before .before) h)),
     )
 
 pub count-records-spec : {M : Type 1} → statement M
@@ -94,6 +102,7 @@ count-records-spec =
     Inv-loop
     μ-loop
     length-at-requires
+    exclusion-count-requires
     loop-holds
     next-lines-requires
     mul-counts

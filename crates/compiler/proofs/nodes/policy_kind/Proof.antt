@@ -7,7 +7,8 @@ use mir.Syntax.{w32}
 use mir.ValLaws.{toZ-ofZ}
 use Rattle.layout.specs.Records.{policyKind}
 use Rattle.peal.specs.Score.{scaled, meets}
-use Rattle.compiler.proofs.MentionLaws.{byte-small, kind-of-bytes}
+use Rattle.arith.proofs.Tests.{byte-small}
+use Rattle.compiler.proofs.MentionLaws.{kind-of-bytes}
 use Rattle.compiler.proofs.nodes.policy_kind.Statement.{statement}
 use Rattle.compiler.proofs.nodes.policy_kind.Tie as tie
 

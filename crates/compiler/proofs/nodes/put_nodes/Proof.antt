@@ -12,17 +12,17 @@ use Rattle.compiler.proofs.nodes.put_nodes.Statement.{statement}
 use Rattle.compiler.proofs.nodes.put_nodes.Tie as tie
 
 abbrev Inv-loop : tie.InvT-loop
-Inv-loop cells n lines words₀ all at₀ i₀ words at i =
-    (i ≤ all) × (0 < at) × (at ≤ 1 + i * 65537) × (length words ≡ length words₀) × ((h : ConditionKept cells n) → WrittenTo h i at words₀ words)
+Inv-loop cells n lines words₀ first all at₀ i₀ words at i =
+    (i ≤ all) × (0 < at) × (at ≤ first + i * 65537) × (length words ≡ length words₀) × ((h : ConditionKept cells n) → WrittenTo h first i at words₀ words)
 
 abbrev μ-loop : tie.MeasureT-loop
-μ-loop cells n lines words₀ all at₀ i₀ words at i = all - i
+μ-loop cells n lines words₀ first all at₀ i₀ words at i = all - i
 
 length-at-requires : tie.Need-length-at-requires Inv-loop μ-loop
 length-at-requires c κs = c .before .pre .0
 
 loop-holds : tie.Need-loop-holds Inv-loop μ-loop
-loop-holds c = (omega arith, omega arith, omega arith, refl, λ h. put-start h (now (c .before .before .args .words)))
+loop-holds c = let s = c .before .before in (omega arith, s .pre .2, omega arith, refl, λ h. put-start h (s .args .first) (now (s .args .words)))
 
 -- node i is one of 31, and its lines are few
 module _ (c : tie.In-loop Inv-loop μ-loop) where
@@ -53,7 +53,7 @@ put-node-requires c κs =
     let l = turn w in
     let s = start w in (
       l .loop .inv .1,
-      omega (arith, l .loop .inv .2, cell w),
+      omega (arith, l .loop .inv .2, s .pre .3, cell w),
       λ h. s .pre .1 h (l .loop .i) (inside w h),
       (s .pre .0, inside w (s .pre .0)),
     )
@@ -62,7 +62,7 @@ add-at : tie.Need-add-at Inv-loop μ-loop
 add-at c = omega (arith, few (c .before .before .before .before .before))
 
 add-at-2 : tie.Need-add-at-2 Inv-loop μ-loop
-add-at-2 c = let w = c .before .before .before .before .before in omega (arith, few w, cell w, turn w .loop .inv .2)
+add-at-2 c = let w = c .before .before .before .before .before in omega (arith, few w, cell w, start w .pre .3, turn w .loop .inv .2)
 
 add-i : tie.Need-add-i Inv-loop μ-loop
 add-i c = omega (arith, cell (c .before .before .before .before .before))
@@ -81,7 +81,7 @@ loop-again c =
       omega (arith, few w, l .loop .inv .2),
       r .put-node .kept .1 .1 .1 .1 .0 ∙ l .loop .inv .3,
       λ h.
-          put-turn h (l .loop .i) (inside w h) _ (s .pre .1 h (l .loop .i) (inside w h)) (l .loop .at) (now (s .args .words)) (l .loop .words) _ (r .put-node .ensures h) (l .loop .inv .4 h),
+          put-turn h (l .loop .i) (inside w h) _ (s .pre .1 h (l .loop .i) (inside w h)) (s .args .first) (l .loop .at) (now (s .args .words)) (l .loop .words) _ (r .put-node .ensures h) (l .loop .inv .4 h),
     )
 
 same-length : tie.Need-same-length Inv-loop μ-loop
@@ -92,7 +92,7 @@ returns c =
     let l = c .before in
     let s = l .before .before .before in
     λ h.
-    put-end h (l .loop .i) (omega (arith, c .loop-test .left, l .before .length-at .ensures (h .condition) (condition-held h))) (l .loop .at) (now (s .args .words)) (l .loop .words) (l .loop .inv .4 h)
+    put-end h (l .loop .i) (omega (arith, c .loop-test .left, l .before .length-at .ensures (h .condition) (condition-held h))) (s .args .first) (l .loop .at) (now (s .args .words)) (l .loop .words) (l .loop .inv .4 h)
 
 pub put-nodes-spec : {M : Type 1} → statement M
 put-nodes-spec =

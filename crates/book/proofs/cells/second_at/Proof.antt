@@ -1,0 +1,32 @@
+-- `book::cells::second_at`: an exclusion's place lies inside the cells, and the cell is a number that fits.
+use mathlib.Core.Path.{ap}
+use native.Mathlib.Omega.{arith}
+use borrow.Author.Needs.{needs}
+use lib.IntN.{natAbs}
+use Rattle.book.proofs.CellLaws.{read-back, cast-fits, kept-exclusion, same-exclusions}
+use Rattle.book.proofs.cells.second_at.Statement.{statement}
+use Rattle.book.proofs.cells.second_at.Tie as tie
+
+add-result : tie.Need-add-result
+add-result c = search needs
+
+mul-result : tie.Need-mul-result
+mul-result c = search needs
+
+element-copy-out-result : tie.Need-element-copy-out-result
+element-copy-out-result c = search needs
+
+cast-result : tie.Need-cast-result
+cast-result c =
+    let h = c .before .pre .0 in
+    let l = c .before .pre .1 in
+    let i = c .before .args .i in
+    cast-fits (read-back (record { sfits = c .result .given }) (h .held .seconds i l)) (record { fits = omega (arith, kept-exclusion h i l .second) })
+
+returns : tie.Need-returns
+returns c xs h =
+    let k = c .before .pre in
+    ap natAbs (read-back (record { sfits = c .result .given }) (h .seconds (c .before .args .i) (omega (arith, k .1, same-exclusions (k .0 .held) h))))
+
+pub second-at-spec : {M : Type 1} → statement M
+second-at-spec = tie.close (tie.spec add-result mul-result element-copy-out-result cast-result returns)

@@ -1,0 +1,144 @@
+-- `book::taking::take_form`: each form by the function that takes it; a condition without an expression is refused.
+use mathlib.Core.Option.{some, none}
+use mathlib.Core.Path.{_≡_, refl, ap, subst, _∙_}
+use lib.IntN.{ℤ}
+use mir.Syntax.{w32}
+use mir.Val.{toZ, ofZ}
+use denote.Ref.{now}
+use Rattle.book.specs.Acceptance.{defaultOf, defaultInRange}
+use Rattle.book.specs.LineMeaning.{lineMeaning, StartIn}
+use Rattle.book.specs.declared.lines.Line.{Line}
+use Rattle.book.specs.declared.lines.LineRead.the-variants.{Good}
+use Rattle.book.proofs.ExpressionLaws.{expression-found, expression-not-found}
+use Rattle.book.proofs.TakingLaws.{taken-form, taken-none, with-expression, with-none, taken-rule-at, taken-condition-at}
+use borrow.Author.Needs.{needs}
+use Rattle.book.proofs.taking.take_form.Statement.{statement}
+use Rattle.book.proofs.taking.take_form.Tie as tie
+
+-- what is kept of a number is the number
+default-kept : (c : tie.After-known-told) → toZ w32 (ofZ w32 (c .before .form .given .0 .1 .0)) ≡ c .before .form .given .0 .1 .0
+default-kept c = search needs
+
+score-kept : (c : tie.After-known-told3) → toZ w32 (ofZ w32 (c .before .form3 .given .0 .1 .0)) ≡ c .before .form3 .given .0 .1 .0
+score-kept c = search needs
+
+threshold-kept : (c : tie.After-known-told4) → toZ w32 (ofZ w32 (c .before .form4 .given .0 .1 .0)) ≡ c .before .form4 .given .0 .1 .0
+threshold-kept c = search needs
+
+enum-known-form : tie.Need-enum-known-form
+enum-known-form c = search needs
+
+default-in-range-requires : tie.Need-default-in-range-requires
+default-in-range-requires c κs = search needs
+
+take-policy-requires : tie.Need-take-policy-requires
+take-policy-requires c κs = search needs
+
+enum-known-form-2 : tie.Need-enum-known-form-2
+enum-known-form-2 c = search needs
+
+take-policy-requires-2 : tie.Need-take-policy-requires-2
+take-policy-requires-2 c κs = search needs
+
+enum-known-form-3 : tie.Need-enum-known-form-3
+enum-known-form-3 c = search needs
+
+take-rule-requires : tie.Need-take-rule-requires
+take-rule-requires c κs = c .before .before .before .before .before .pre .0
+
+enum-known-form-4 : tie.Need-enum-known-form-4
+enum-known-form-4 c = search needs
+
+read-expression-requires : tie.Need-read-expression-requires
+read-expression-requires c κs =
+    let k = c .before .before in
+    let s = k .before .before .before in
+    let i = subst (λ (x : Line). StartIn (now (s .args .line)) (Good x)) (k .form4 .given .1) (s .pre .2) in
+    (s .pre .1, i .0, i .1)
+
+take-condition-requires : tie.Need-take-condition-requires
+take-condition-requires c κs =
+    let t = c .before .before in
+    let p = t .before in
+    let x = expression-found _ _ _ _ (p .read-expression .ensures) (t .if1 .taken) in
+    (p .before .before .before .before .before .before .pre .0, p .read-expression .ensures .few (t .if1 .taken), (x .0, x .2))
+
+refused-requires : tie.Need-refused-requires
+refused-requires c κs = search needs
+
+enum-known-form-5 : tie.Need-enum-known-form-5
+enum-known-form-5 c = search needs
+
+take-exclusion-requires : tie.Need-take-exclusion-requires
+take-exclusion-requires c κs = c .before .before .before .before .before .pre .0
+
+-- what the code matched on
+abbrev meant : (s : tie.Start) {x : Line} → s .args .form ≡ x → lineMeaning (now (s .args .line)) (Good (s .args .form)) ≡ lineMeaning (now (s .args .line)) (Good x)
+meant s e = ap (λ (x : Line). lineMeaning (now (s .args .line)) (Good x)) e
+
+returns : tie.Need-returns
+unfolding defaultOf defaultInRange
+returns c =
+    let d = c .before .before in
+    let k = d .before .before in
+    let z = default-kept (d .before) in
+    λ n so h.
+    taken-form n so _ _ _ _ (meant (k .before .before .before) (k .form .given .1))
+    (c .take-policy .ensures n so (some (k .form .given .0 .1 .0)) h z (d .default-in-range .ensures ∙ ap (λ (x : ℤ). defaultInRange (some x)) z))
+
+returns-2 : tie.Need-returns-2
+unfolding defaultOf defaultInRange
+returns-2 c =
+    let k = c .before .before .before in
+    λ n so h. taken-form n so _ _ _ _ (meant (k .before .before .before) (k .form2 .given .1)) (c .take-policy2 .ensures n so none h refl refl)
+
+returns-3 : tie.Need-returns-3
+returns-3 c =
+    let k = c .before .before .before in
+    λ n so h. taken-form n so _ _ _ _ (meant (k .before .before .before) (k .form3 .given .1)) (taken-rule-at n so _ _ _ _ _ (score-kept (c .before .before)) (c .take-rule .ensures n so h))
+
+returns-4 : tie.Need-returns-4
+returns-4 c =
+    let t = c .before .before .before in
+    let p = t .before in
+    let k = p .before .before .before in
+    let x = expression-found _ _ _ _ (p .read-expression .ensures) (t .if1 .taken) in
+    λ n so h.
+    taken-form n so _ _ _ _ (meant (k .before .before .before) (k .form4 .given .1) ∙ with-expression _ _ _ _ (x .1))
+    (taken-condition-at n so _ _ _ _ _ _ (threshold-kept (p .before .before)) (c .take-condition .ensures n so (x .0) h (x .2)))
+
+returns-5 : tie.Need-returns-5
+returns-5 c =
+    let p = c .before .before in
+    let k = p .before .before .before in
+    let x = expression-not-found _ _ _ _ (p .read-expression .ensures) (c .before .if1 .left) in
+    λ n so h. taken-none n so _ _ _ (meant (k .before .before .before) (k .form4 .given .1) ∙ with-none _ _ _ x) (c .refused .ensures)
+
+returns-6 : tie.Need-returns-6
+returns-6 c =
+    let k = c .before .before .before in
+    λ n so h. taken-form n so _ _ _ _ (meant (k .before .before .before) (k .form5 .given .1)) (c .take-exclusion .ensures n so h)
+
+pub take-form-spec : {M : Type 1} → statement M
+take-form-spec =
+    tie.close
+    (tie.spec
+    enum-known-form
+    default-in-range-requires
+    take-policy-requires
+    enum-known-form-2
+    take-policy-requires-2
+    enum-known-form-3
+    take-rule-requires
+    enum-known-form-4
+    read-expression-requires
+    take-condition-requires
+    refused-requires
+    enum-known-form-5
+    take-exclusion-requires
+    returns
+    returns-2
+    returns-3
+    returns-4
+    returns-5
+    returns-6)

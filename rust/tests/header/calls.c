@@ -1,0 +1,25 @@
+/* The header's calls on a book whose condition only an excluded pair meets: the listing, and what each call tells. */
+
+#include <inttypes.h>
+#include <stdio.h>
+
+#include "cerahupo.h"
+
+int main(void)
+{
+    static const uint8_t book[] = "x 0 1\np sum\nr 0 1\nr 1 1\nc 1 < p0\n";
+    static const size_t length = sizeof book - 1;
+    static const uint32_t never[4] = {16, 3, 0, 0};
+    uint32_t words[12];
+
+    uint64_t checked = cerahupo_check(book, length);
+    size_t records = cerahupo_records(cerahupo_compile(book, length, 0, words, 12));
+    for (size_t i = 0; i < 4 * records; i++)
+        printf("%" PRIu32 " ", words[i]);
+    printf("\n%u policies, %u conditions\n", cerahupo_policies(checked), cerahupo_conditions(checked));
+    printf("logger %d\n", cerahupo_yes(cerahupo_decide(book, length, 0, 3)));
+    printf("rod %d\n", cerahupo_yes(cerahupo_read(words, 4 * records, 3)));
+    printf("never %d\n", cerahupo_choice_kind(cerahupo_choice(words, 4 * records)) == CERAHUPO_NEVER);
+    printf("alike %d\n", cerahupo_alike(cerahupo_compare(words, 4 * records, never, 4)));
+    return 0;
+}
