@@ -31,7 +31,7 @@ bit-requires : tie.Need-bit-requires
 bit-requires c κs = omega (arith, first-small c)
 
 bit-requires-2 : tie.Need-bit-requires-2
-bit-requires-2 c κs = omega (arith, second-small (c .before))
+bit-requires-2 c κs = omega (arith, first-small (c .before), second-small (c .before))
 
 add-result : tie.Need-add-result
 add-result c =
