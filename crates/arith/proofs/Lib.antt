@@ -17,3 +17,5 @@ pub mod SubsetTests
 pub mod DistinctLists
 pub mod Below
 pub mod Options
+pub mod Digits
+pub mod Tables

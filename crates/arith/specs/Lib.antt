@@ -1,3 +1,4 @@
 pub mod Lists
 pub mod Options
 pub mod Trees
+pub mod Tables

@@ -7,10 +7,11 @@ use native.Mathlib.Nat.{div-one, div-div-eq-div-mul, pow-succ', pow-suc}
 use lib.Bits.{bitAnd, and-step, and-zero-l, and-le-l}
 use lib.Bits as bits
 use lib.Dec.{eqb, leb}
-use borrow.Author.Tests.{eqb-true, eq-eqb, ne-eqb, leb-false}
+use borrow.Author.Tests.{eq-eqb, ne-eqb, leb-true, leb-false}
 use Rattle.arith.specs.Lists.{every, any, below}
 use Rattle.arith.proofs.AnyEvery.{any-same}
-use Rattle.arith.proofs.Tests.{same-answer, and-left, and-right, not-and, every-low, any-low}
+use Rattle.arith.proofs.Digits.{digits, two-digits}
+use Rattle.arith.proofs.Tests.{not-and, every-low, any-low}
 use Rattle.signals.specs.Sets.{signals, isSet, present, inside, overlap}
 
 pub present-zero : (a : ℕ) → present a 0 ≡ eqb (a % 2) 1
@@ -21,40 +22,15 @@ pub present-suc : (a s : ℕ) → present a (suc s) ≡ present (a / 2) s
 unfolding present
 present-suc a s = rw (div-div-eq-div-mul a 2 (2 ^ s), pow-succ' 2 s) refl
 
--- two numbers are equal where their lowest digits and the rest are
-digits : (x y p q : ℕ) → p < 2 → q < 2 → eqb (x * 2 + p) (y * 2 + q) ≡ (eqb p q && eqb x y)
-digits x y p q hp hq = same-answer _ _ there back
-  where
-    there : eqb (x * 2 + p) (y * 2 + q) ≡ true → (eqb p q && eqb x y) ≡ true
-    there e = let h : x * 2 + p ≡ y * 2 + q = eqb-true _ _ e in rw (eq-eqb p q (omega arith), eq-eqb x y (omega arith))
-
-    back : (eqb p q && eqb x y) ≡ true → eqb (x * 2 + p) (y * 2 + q) ≡ true
-    back e =
-        let hp : p ≡ q = eqb-true p q (and-left (eqb p q) (eqb x y) e) in
-        let hx : x ≡ y = eqb-true x y (and-right (eqb p q) (eqb x y) e) in
-        eq-eqb (x * 2 + p) (y * 2 + q) (omega arith)
-
 -- one binary digit in another, and two digits that are both one
 digit-inside : (p q : ℕ) → p < 2 → q < 2 → (not (eqb p 1) || eqb q 1) ≡ eqb (min p q) p
-digit-inside zero zero hp hq = refl
-digit-inside zero (suc zero) hp hq = refl
-digit-inside zero (suc (suc q)) hp hq = absurd (omega arith)
-digit-inside (suc zero) zero hp hq = refl
-digit-inside (suc zero) (suc zero) hp hq = refl
-digit-inside (suc zero) (suc (suc q)) hp hq = absurd (omega arith)
-digit-inside (suc (suc p)) q hp hq = absurd (omega arith)
+digit-inside = two-digits (λ p q. (not (eqb p 1) || eqb q 1) ≡ eqb (min p q) p) refl refl refl refl
 
 digit-both : (p q : ℕ) → p < 2 → q < 2 → (eqb p 1 && eqb q 1) ≡ not (eqb (min p q) 0)
-digit-both zero zero hp hq = refl
-digit-both zero (suc zero) hp hq = refl
-digit-both zero (suc (suc q)) hp hq = absurd (omega arith)
-digit-both (suc zero) zero hp hq = refl
-digit-both (suc zero) (suc zero) hp hq = refl
-digit-both (suc zero) (suc (suc q)) hp hq = absurd (omega arith)
-digit-both (suc (suc p)) q hp hq = absurd (omega arith)
+digit-both = two-digits (λ p q. (eqb p 1 && eqb q 1) ≡ not (eqb (min p q) 0)) refl refl refl refl
 
 -- for masks of n signals: each signal of a is in b where `a & b == a`
-inside-below : (n a b : ℕ) → a < 2 ^ n → every (λ s. not (present a s) || present b s) (below n) ≡ eqb (bitAnd a b) a
+pub inside-below : (n a b : ℕ) → a < 2 ^ n → every (λ s. not (present a s) || present b s) (below n) ≡ eqb (bitAnd a b) a
 inside-below zero a b h =
     let z : a ≡ 0 = omega arith in
     sym (eq-eqb (bitAnd a b) a (ap (λ (x : ℕ). bitAnd x b) z ∙ and-zero-l b ∙ sym z))
@@ -64,11 +40,11 @@ inside-below (suc n) a b h =
     every-low n (λ s. not (present a s) || present b s)
     ∙ simp (present-zero, present-suc, inside-below n (a / 2) (b / 2) hb)
     (ap (λ (t : Bool). t && eqb (bitAnd (a / 2) (b / 2)) (a / 2)) (digit-inside (a % 2) (b % 2) (omega arith) (omega arith)))
-    ∙ sym (digits (bitAnd (a / 2) (b / 2)) (a / 2) (min (a % 2) (b % 2)) (a % 2) (omega arith) (omega arith))
+    ∙ sym (digits 1 (bitAnd (a / 2) (b / 2)) (a / 2) (min (a % 2) (b % 2)) (a % 2) (omega arith) (omega arith))
     ∙ ap₂ (λ (x y : ℕ). eqb x y) (sym (and-step a b)) hd
 
 -- for masks of n signals: a and b share a signal where `a & b != 0`
-overlap-below : (n a b : ℕ) → a < 2 ^ n → any (λ s. present a s && present b s) (below n) ≡ not (eqb (bitAnd a b) 0)
+pub overlap-below : (n a b : ℕ) → a < 2 ^ n → any (λ s. present a s && present b s) (below n) ≡ not (eqb (bitAnd a b) 0)
 overlap-below zero a b h =
     let z : a ≡ 0 = omega arith in
     sym (ap not (eq-eqb (bitAnd a b) 0 (ap (λ (x : ℕ). bitAnd x b) z ∙ and-zero-l b)))
@@ -78,7 +54,7 @@ overlap-below (suc n) a b h =
     ∙ simp (present-zero, present-suc, overlap-below n (a / 2) (b / 2) hb)
     (ap (λ (t : Bool). t || not (eqb (bitAnd (a / 2) (b / 2)) 0)) (digit-both (a % 2) (b % 2) (omega arith) (omega arith)))
     ∙ sym (not-and (eqb (min (a % 2) (b % 2)) 0) (eqb (bitAnd (a / 2) (b / 2)) 0))
-    ∙ ap not (sym (digits (bitAnd (a / 2) (b / 2)) 0 (min (a % 2) (b % 2)) 0 (omega arith) (omega arith)))
+    ∙ ap not (sym (digits 1 (bitAnd (a / 2) (b / 2)) 0 (min (a % 2) (b % 2)) 0 (omega arith) (omega arith)))
     ∙ ap (λ (x : ℕ). not (eqb x 0)) (sym (and-step a b))
 
 -- a signal set lies inside another number: the code's `mask & set == mask`
@@ -103,5 +79,5 @@ set-inside-and mask set h = go (leb mask 65535) refl
     large e q = omega (arith, leb-false mask 65535 e, bits.and-comm mask set, and-le-l set mask)
 
     go : (b : Bool) → leb mask 65535 ≡ b → (b && inside mask set) ≡ eqb (bitAnd mask set) mask
-    go true e = inside-and mask set (omega (arith, borrow.Author.Tests.leb-true mask 65535 e))
+    go true e = inside-and mask set (omega (arith, leb-true mask 65535 e))
     go false e = sym (ne-eqb (bitAnd mask set) mask (large e))

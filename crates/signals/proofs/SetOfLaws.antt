@@ -1,9 +1,9 @@
 -- Laws of the set of some signals: which are present in it, how large it is, and when it lies inside a set or shares a signal with one.
 use Prim.Native.Nat.{ℕ, zero, suc, _+_, _/_, _%_, _^_, _≤_, _<_}
-use mathlib.Core.Bool.{Bool, true, false, not, _&&_, _||_, not-or-self}
+use mathlib.Core.Bool.{Bool, true, false, not, _&&_, _||_, not-or-self, or-false}
 use mathlib.Core.List.{List, [], _∷_}
 use mathlib.Core.Path.{_≡_, refl, sym, ap, _∙_}
-use native.Mathlib.Nat.{pow-suc}
+use native.Mathlib.Nat.{add-zero, pow-suc}
 use native.Mathlib.Omega.{arith}
 use lib.Bits as bits
 use lib.Bits.{bitAnd, and-zero-l}
@@ -16,6 +16,7 @@ use Rattle.arith.proofs.Below.{every-listed, any-listed, every-below}
 use Rattle.arith.proofs.Tests.{clash, not-yes, and-left}
 use Rattle.signals.specs.Sets.{signals, isSet, present, inside, overlap, size, isPair, setOf}
 use Rattle.signals.proofs.SetLaws.{present-zero, present-suc, inside-and}
+use Rattle.signals.proofs.BitLaws.{present-none}
 
 -- ---- one signal more
 
@@ -35,6 +36,12 @@ present-more (suc s) m (suc i) h =
     let e : (2 ^ suc s + m) / 2 ≡ 2 ^ s + m / 2 = omega (arith, pow-suc 2 s) in
     present-suc (2 ^ suc s + m) i ∙ rw (e, eqb·suc-suc s i, present-suc m i) (present-more s (m / 2) i (sym (present-suc m s) ∙ h))
 
+-- one signal alone
+pub present-one : (s i : ℕ) → present (2 ^ s) i ≡ eqb s i
+present-one s i =
+    ap (λ (x : ℕ). present x i) (sym (add-zero (2 ^ s))) ∙ present-more s 0 i (present-none s)
+    ∙ ap (λ (t : Bool). eqb s i || t) (present-none i) ∙ or-false (eqb s i)
+
 below-more : (n s m : ℕ) → s < n → m < 2 ^ n → present m s ≡ false → 2 ^ s + m < 2 ^ n
 below-more zero s m k l h = absurd (omega arith)
 below-more (suc n) zero m k l h = omega (arith, pow-suc 2 n, even m h)
@@ -44,14 +51,9 @@ below-more (suc n) (suc s) m k l h =
 
 -- ---- the set of some different signals
 
-none-present : (i : ℕ) → present 0 i ≡ false
-unfolding present
-none-present zero = refl
-none-present (suc i) = present-suc 0 i ∙ none-present i
-
 pub present-set : (ss : List ℕ) → Distinct ss → (i : ℕ) → present (setOf ss) i ≡ isIn i ss
 unfolding setOf
-present-set [] d i = none-present i
+present-set [] d i = present-none i
 present-set (s ∷ ss) d i = present-more s (setOf ss) i (present-set ss (d .1) s ∙ d .0) ∙ ap (λ (t : Bool). eqb s i || t) (present-set ss (d .1) i)
 
 pub set-below : (n : ℕ) (ss : List ℕ) → AllBelow n ss → Distinct ss → setOf ss < 2 ^ n

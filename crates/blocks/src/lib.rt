@@ -1,0 +1,64 @@
+// A block is the 64 sets from 64 * block on. A word of 64 bits tells one thing of each of them: bit j is for the set
+// 64 * block + j. So the six lowest signals have the same patterns in every block. The functions are for the crates above.
+ghost use mathlib.Core.Bool.{_&&_, _||_};
+ghost use mathlib.Core.Path.{_≡_};
+ghost use Prim.Native.Nat.{_%_, _≤_, _<_};
+ghost use Rattle.signals.specs.Sets.{present, overlap};
+ghost use Rattle.blocks.specs.Blocks.{WordOf, BlockOf, without};
+
+// Every set of a block.
+pub const ALL: u64 = 0xffffffffffffffff;
+
+// The sets of a block that have the signal, one of the six lowest.
+fn having(signal: u32) -> u64
+    requires { ⌜ signal < 6 ⌝ }
+    ensures { λ r. ⌜ WordOf (λ j. present j signal) r ⌝ }
+{
+    match signal {
+        0 => 0xaaaaaaaaaaaaaaaa,
+        1 => 0xcccccccccccccccc,
+        2 => 0xf0f0f0f0f0f0f0f0,
+        3 => 0xff00ff00ff00ff00,
+        4 => 0xffff0000ffff0000,
+        _ => 0xffffffff00000000,
+    }
+}
+
+// Each set that has the signal gets what the word tells of the set without it.
+pub fn spread(word: u64, signal: u32) -> u64
+    requires { ⌜ signal < 6 ⌝ }
+    ensures { λ r. ⌜ WordOf (λ j. present word j || present word (without signal j)) r ⌝ }
+{
+    let weight: u32 = 1 << signal;
+    word | word << weight & having(signal)
+}
+
+// The sets of a block that have the signal, if the mask has it.
+fn sharing(low: u32, signal: u32) -> u64
+    requires { ⌜ signal < 6 ⌝ }
+    ensures { λ r. ⌜ WordOf (λ j. present low signal && present j signal) r ⌝ }
+{
+    if low >> signal & 1 == 1 { having(signal) } else { 0 }
+}
+
+// The sets of a block that share one of the six lowest signals with the mask.
+pub fn low_overlap(low: u32) -> u64
+    requires { ⌜ low < 64 ⌝ }
+    ensures { λ r. ⌜ WordOf (overlap low) r ⌝ }
+{
+    let mut word: u64 = 0;
+    let mut signal: u32 = 0;
+    while signal < 6 {
+        word = sharing(low, signal) | word;
+        signal += 1;
+    }
+    word
+}
+
+// The sets of the block that share a signal with the mask, from those that share one of the six lowest.
+pub fn block_overlap(mask: u32, low: u64, block: u32) -> u64
+    requires { ⌜ (mask ≤ 65535) × (block ≤ 1023) × WordOf (overlap (mask % 64)) low ⌝ }
+    ensures { λ r. ⌜ BlockOf (overlap mask) block r ⌝ }
+{
+    if mask / 64 & block == 0 { low } else { ALL }
+}
