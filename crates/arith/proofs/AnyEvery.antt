@@ -7,7 +7,7 @@ use native.Mathlib.Numerals.{add-one}
 use lib.ListN.{length, getD, drop, drop-of-length-le}
 use lib.Seq.{drop-cons}
 use Rattle.arith.specs.Lists.{every, any, keep}
-use Rattle.arith.proofs.Tests.{clash, and-swap, or-right}
+use Rattle.arith.proofs.Tests.{clash, and-swap, or-right, or-swap}
 
 module _ {A : Type 0} (test : A → Bool) where
   -- ---- some member passes
@@ -52,6 +52,15 @@ module _ {A : Type 0} (test : A → Bool) where
   pub any-same : (other : A → Bool) (xs : List A) → ((x : A) → List·Memᴰ x xs → test x ≡ other x) → any test xs ≡ any other xs
   any-same other [] h = refl
   any-same other (x ∷ xs) h = ap₂ (λ (a b : Bool). a || b) (h x (List·Memᴰ·head refl)) (any-same other xs (λ y m. h y (List·Memᴰ·tail m)))
+
+  -- by two tests, one of which each member that passes passes too
+  pub any-either : (one two : A → Bool) → ((x : A) → test x ≡ (one x || two x)) → (xs : List A) → any test xs ≡ (any one xs || any two xs)
+  any-either one two h [] = refl
+  any-either one two h (x ∷ xs) = ap₂ (λ (a b : Bool). a || b) (h x) (any-either one two h xs) ∙ go (one x) (two x) (any one xs) (any two xs)
+    where
+      go : (a b c d : Bool) → ((a || b) || (c || d)) ≡ ((a || c) || (b || d))
+      go true b c d = refl
+      go false b c d = or-swap b c d
 
   -- among those that pass another test
   pub any-keep : (other : A → Bool) (xs : List A) → any test (keep other xs) ≡ any (λ x. other x && test x) xs

@@ -3,21 +3,21 @@ use Prim.Native.Nat.{ℕ, zero, suc, _+_, _-_, _*_, _/_, _%_, _^_, _≤_, _<_}
 use mathlib.Core.Bool.{Bool, true, false, not, _&&_, _||_, Bool·beq, and-true, and-false, or-self, or-false}
 use mathlib.Core.Logic.{⊎-elim}
 use mathlib.Core.Path.{_≡_, refl, sym, ap, ap₂, subst, _∙_}
-use native.Mathlib.Nat.{zero-add}
+use native.Mathlib.Nat.{zero-add, div-one, pow-suc}
 use native.Mathlib.Numerals.{add-one}
 use native.Mathlib.Omega.{arith}
 use lib.Bits.{bitAnd, bitOr, and-block, and-mask}
 use lib.Bits as bits
 use lib.Dec.{eqb}
-use lib.Pow.{shr-lt}
+use lib.Pow.{pow-add, shr-lt}
 use borrow.Author.Tests.{eqb-true, eqb-false, eq-eqb, ne-eqb}
 use Rattle.arith.specs.Lists.{every, any, below}
 use Rattle.arith.proofs.Below.{every-below}
 use Rattle.arith.proofs.Digits.{digits}
 use Rattle.arith.proofs.Order.{le-or-lt}
 use Rattle.signals.specs.Sets.{present, overlap}
-use Rattle.signals.proofs.SetLaws.{overlap-and, overlap-below}
-use Rattle.signals.proofs.BitLaws.{present-and, present-or, present-none, present-all, present-shift}
+use Rattle.signals.proofs.SetLaws.{present-zero, present-suc, overlap-and, overlap-below}
+use Rattle.signals.proofs.BitLaws.{present-and, present-or, present-none, present-low, present-high, present-shift}
 use Rattle.blocks.specs.Blocks.{WordOf, BlockOf, without}
 
 -- ---- the patterns of the six lowest signals
@@ -55,6 +55,66 @@ module _ (s set : ℕ) where
     where
       go : (digit : ℕ) → digit ≡ 0 → set - digit * 2 ^ s ≡ set
       go digit d = rw d (omega arith)
+
+-- the lowest signal, and the others by the rest of the set
+pub without-zero : (set : ℕ) → without 0 set ≡ set / 2 * 2
+unfolding without
+without-zero set = rw div-one (omega arith)
+
+pub without-suc : (s set : ℕ) → without (suc s) set ≡ without s (set / 2) * 2 + set % 2
+without-suc s set = go (present (set / 2) s) refl
+  where
+    go : (t : Bool) → present (set / 2) s ≡ t → without (suc s) set ≡ without s (set / 2) * 2 + set % 2
+    go true e = omega (arith, pow-suc 2 s, with-signal (suc s) set (present-suc set s ∙ e), with-signal s (set / 2) e)
+    go false e = omega (arith, without-signal (suc s) set (present-suc set s ∙ e), without-signal s (set / 2) e)
+
+-- it is no larger, and without the signal twice is without it
+module _ (s set : ℕ) where
+  pub without-less : without s set ≤ set
+  without-less = go (present set s) refl
+    where
+      go : (t : Bool) → present set s ≡ t → without s set ≤ set
+      go true e = omega (arith, with-signal s set e)
+      go false e = omega (arith, without-signal s set e)
+
+  gone : (t set : ℕ) → present (without t set) t ≡ false
+  gone zero set = present-zero (without 0 set) ∙ ne-eqb (without 0 set % 2) 1 (λ e. omega (arith, without-zero set, e))
+  gone (suc t) set =
+      let half : without (suc t) set / 2 ≡ without t (set / 2) = omega (arith, without-suc t set) in
+      present-suc (without (suc t) set) t ∙ ap (λ (x : ℕ). present x t) half ∙ gone t (set / 2)
+
+  pub without-twice : without s (without s set) ≡ without s set
+  without-twice = without-signal s (without s set) (gone s set)
+
+-- a set's low and high signals, without one of the low
+module _ (s set : ℕ) (low : s < 6) where
+  pub low-without : (without s set / 64 ≡ set / 64) × (without s set % 64 ≡ without s (set % 64))
+  low-without = go (present set s) refl
+    where
+      go : (t : Bool) → present set s ≡ t → (without s set / 64 ≡ set / 64) × (without s set % 64 ≡ without s (set % 64))
+      go true e =
+          let w = with-signal s set e in
+          let v = with-signal s (set % 64) (present-low 6 set s low ∙ e) in
+          (omega arith, omega arith)
+      go false e =
+          let w = without-signal s set e in
+          let v = without-signal s (set % 64) (present-low 6 set s low ∙ e) in
+          (omega arith, omega arith)
+
+-- and without one of the high
+pub high-without : (s set : ℕ) → (without (6 + s) set / 64 ≡ without s (set / 64)) × (without (6 + s) set % 64 ≡ set % 64)
+high-without s set = go (present (set / 64) s) refl
+  where
+    go : (t : Bool) → present (set / 64) s ≡ t → (without (6 + s) set / 64 ≡ without s (set / 64)) × (without (6 + s) set % 64 ≡ set % 64)
+    go true e =
+        let p : 2 ^ (6 + s) ≡ 64 * 2 ^ s = pow-add 2 6 s in
+        let w = with-signal (6 + s) set (present-high 6 set s ∙ e) in
+        let v = with-signal s (set / 64) e in
+        (omega arith, omega arith)
+    go false e =
+        let w = without-signal (6 + s) set (present-high 6 set s ∙ e) in
+        let v = without-signal s (set / 64) e in
+        (omega arith, omega arith)
 
 -- by the sets that have the signal
 pub spread-word : (word s shift having : ℕ) → shift ≡ 2 ^ s → WordOf (λ j. present j s) having

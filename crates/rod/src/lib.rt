@@ -90,7 +90,7 @@ fn with_join(values: u32, or: bool) -> u32
 }
 
 // The index of the node after the one at index `at`: its `next` leads over its lines.
-fn next_index(words: &[u32], at: usize) -> usize
+pub fn next_index(words: &[u32], at: usize) -> usize
     requires { ⌜ (at < length (now words) / 4) × NodeAt (now words) at ⌝ }
     ensures { λ r. ⌜ r ≡ nodeEnd (now (words .entry)) at ⌝ }
 {

@@ -67,16 +67,21 @@ present-all k j h = ap (λ (x : ℕ). present x j) (whole (2 ^ k)) ∙ present-n
     whole : (n : ℕ) → n - 1 ≡ n - 1 - 0
     whole n = omega arith
 
--- of a number of k bits moved up by n, the bits from n on are its own
-pub present-shift : (k n a j : ℕ) → n + j < k → present (a * 2 ^ n % 2 ^ k) (n + j) ≡ present a j
+-- the bits of the k lowest, and of the others
+pub present-low : (k a j : ℕ) → j < k → present (a % 2 ^ k) j ≡ present a j
 unfolding present
-present-shift k n a j h = ap (λ (x : ℕ). eqb x 1) (kept (k - (n + j) - 1) (omega arith) ∙ ap (λ (x : ℕ). x % 2) (sym (shr-shr (a * 2 ^ n) n j) ∙ ap (λ (x : ℕ). x / 2 ^ j) (shl-shr a n)))
+present-low k a j h = ap (λ (x : ℕ). eqb x 1) (go (k - j - 1) (omega arith))
   where
-    kept : (more : ℕ) → k ≡ more + 1 + (n + j) → a * 2 ^ n % 2 ^ k / 2 ^ (n + j) % 2 ≡ a * 2 ^ n / 2 ^ (n + j) % 2
-    kept more e =
-        ap (λ (x : ℕ). a * 2 ^ n % 2 ^ x / 2 ^ (n + j) % 2) e
-        ∙ ap (λ (x : ℕ). x % 2) (field (a * 2 ^ n) (more + 1) (n + j))
-        ∙ mod-mod-pow (a * 2 ^ n / 2 ^ (n + j)) more 1
+    go : (more : ℕ) → k ≡ more + 1 + j → a % 2 ^ k / 2 ^ j % 2 ≡ a / 2 ^ j % 2
+    go more e = ap (λ (n : ℕ). a % 2 ^ n / 2 ^ j % 2) e ∙ ap (λ (x : ℕ). x % 2) (field a (more + 1) j) ∙ mod-mod-pow (a / 2 ^ j) more 1
+
+pub present-high : (k a j : ℕ) → present a (k + j) ≡ present (a / 2 ^ k) j
+unfolding present
+present-high k a j = ap (λ (x : ℕ). eqb (x % 2) 1) (sym (shr-shr a k j))
+
+-- of a number moved up by n within k bits, those from n on are its own
+pub present-shift : (k n a j : ℕ) → n + j < k → present (a * 2 ^ n % 2 ^ k) (n + j) ≡ present a j
+present-shift k n a j h = present-low k (a * 2 ^ n) (n + j) h ∙ present-high n (a * 2 ^ n) j ∙ ap (λ (x : ℕ). present x j) (shl-shr a n)
 
 -- ---- the lowest bit
 

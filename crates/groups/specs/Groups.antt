@@ -1,0 +1,57 @@
+-- Tables that tell one thing of each set of a group, the 1,024 sets from 1024 * group on.
+use Prim.Native.Nat.{ℕ, zero, suc, _+_, _-_, _*_, _/_, _%_, _≤_, _<_}
+use mathlib.Core.Bool.{Bool, not, _&&_, _||_}
+use mathlib.Core.List.{List, [], _∷_}
+use mathlib.Core.Path.{_≡_}
+use lib.Bits.{bitAnd}
+use lib.Dec.{eqb}
+use lib.ListN.{length, getD}
+use Rattle.arith.specs.Lists.{any}
+use Rattle.signals.specs.Sets.{present}
+use Rattle.blocks.specs.Blocks.{BlockOf, without}
+use Rattle.rod.specs.Values.{lineAt, AllSets}
+
+-- the words of a table tell the test of the 16 blocks of a group, from 16 * group on
+abbrev pub GroupOf : (ℕ → Bool) → ℕ → List ℕ → Type 0
+GroupOf test group table = (k : ℕ) → k < 16 → BlockOf test (16 * group + k) (getD table k 0)
+
+-- the masks of so many records from an index on
+unfoldable pub masksFrom : List ℕ → ℕ → ℕ → List ℕ
+masksFrom ws at zero = []
+masksFrom ws at (suc count) = lineAt ws at ∷ masksFrom ws (at + 1) count
+
+-- the records from one index up to another have signal sets as masks
+pub record MasksAt (ws : List ℕ) (from end : ℕ) : Type 0 where
+  pub ordered : from ≤ end
+  pub within : end ≤ length ws / 4
+  pub sets : AllSets (masksFrom ws from (end - from))
+
+-- ---- masks in a table, spread from signal to signal
+
+-- what a table tells of set x of the group: bit x % 64 of word x / 64
+unfoldable pub tells : List ℕ → ℕ → Bool
+tells table x = present (getD table (x / 64) 0) (x % 64)
+
+-- below signal n the first lies inside the second, and from n on the two are the same
+unfoldable pub reaches : ℕ → ℕ → ℕ → Bool
+reaches zero a b = eqb a b
+reaches (suc n) a b = (not (present a 0) || present b 0) && reaches n (a / 2) (b / 2)
+
+-- the mask's six highest signals are all the group's, and the others reach set x
+unfoldable pub maskReaches : ℕ → ℕ → ℕ → ℕ → Bool
+maskReaches n group x mask = eqb (bitAnd (mask / 1024) group) (mask / 1024) && reaches n (mask % 1024) x
+
+-- a table tells of each set whether some mask reaches it
+pub record Reached (n : ℕ) (masks : List ℕ) (group : ℕ) (table : List ℕ) : Type 0 where
+  pub room : length table ≡ 16
+  pub told : (x : ℕ) → x < 1024 → tells table x ≡ any (maskReaches n group x) masks
+
+-- the mask is added to a table, at its own set
+pub record Added (mask group : ℕ) (table left : List ℕ) : Type 0 where
+  pub room : length left ≡ 16
+  pub told : (x : ℕ) → x < 1024 → tells left x ≡ (tells table x || maskReaches 0 group x mask)
+
+-- each set of a table that has the signal gets what is told of the set without it
+pub record Spread (signal : ℕ) (table left : List ℕ) : Type 0 where
+  pub room : length left ≡ 16
+  pub told : (x : ℕ) → x < 1024 → tells left x ≡ (tells table x || tells table (without signal x))

@@ -1,0 +1,64 @@
+-- The values as the code keeps them, sixteen tables at most, and where it stands in a sound listing.
+use Prim.Native.Nat.{ℕ, zero, suc, _+_, _*_, _/_, _≤_, _<_}
+use mathlib.Core.Bool.{Bool}
+use mathlib.Core.List.{List, [], _∷_, map}
+use mathlib.Core.Path.{_≡_}
+use lib.ListN.{length, getD}
+use Rattle.arith.specs.Tables.{Written}
+use Rattle.arith.specs.Trees.{run}
+use Rattle.signals.specs.Sets.{present}
+use Rattle.blocks.specs.Blocks.{WordOf, BlockOf}
+use Rattle.layout.specs.Records.{Join}
+use Rattle.layout.specs.Nodes.{ListedPolicy, leadingLines, nodes}
+use Rattle.layout.specs.Steps.{recordsFrom}
+use Rattle.rod.specs.Reading.{policyValue, joined, remaining, says}
+use Rattle.rod.specs.Values.{AllSets, nodeEnd, NodeAt}
+
+-- where word k of the value at a height stands
+abbrev pub valueWord : ℕ → ℕ → ℕ
+valueWord height k = height * 16 + k
+
+-- word k tells what a policy says of block k of the group
+abbrev pub PolicyWord : ListedPolicy → ℕ → ℕ → ℕ → Type 0
+PolicyWord p group k word = BlockOf (λ set. policyValue set p) (16 * group + k) word
+
+-- the policy's value is put at this height
+abbrev pub PolicyPut : ListedPolicy → ℕ → ℕ → List ℕ → List ℕ → Type 0
+PolicyPut p group height values left = Written (valueWord height) (PolicyWord p group) 16 values left
+
+-- word k joins those of the value at this height and of the next
+abbrev pub JoinedWord : Join → ℕ → List ℕ → ℕ → ℕ → Type 0
+JoinedWord join height values k word =
+    WordOf (λ j. joined join (present (getD values (height * 16 + k) 0) j) (present (getD values (height * 16 + 16 + k) 0) j)) word
+
+-- the value at this height and the next are joined
+abbrev pub JoinPut : Join → ℕ → List ℕ → List ℕ → Type 0
+JoinPut join height values left = Written (valueWord height) (JoinedWord join height values) 16 values left
+
+-- the record at this index has a signal set as mask, and so have its lines, which end before index `end`
+pub record PolicyHere (ws : List ℕ) (at end : ℕ) : Type 0 where
+  pub within : at < length ws / 4
+  pub ends : end ≡ nodeEnd ws at
+  pub set : getD ws (at * 4 + 1) 0 ≤ 65535
+  pub lines : AllSets (leadingLines (recordsFrom ws (at + 1)))
+
+-- word k of each of the first `height` values, the last first
+unfoldable pub heldWords : List ℕ → ℕ → ℕ → List ℕ
+heldWords values k zero = []
+heldWords values k (suc height) = getD values (height * 16 + k) 0 ∷ heldWords values k height
+
+-- what these words tell of set j of the block
+unfoldable pub column : ℕ → List ℕ → List Bool
+column j held = map (λ (word : ℕ). present word j) held
+
+-- at this index, with so many values, the nodes to come say of each set of the group what the whole listing says
+pub record GroupUnderway (ws : List ℕ) (group at : ℕ) (values : List ℕ) (height : ℕ) : Type 0 where
+  pub within : group ≤ 63
+  pub room : length values ≡ 256
+  pub node : NodeAt ws at
+  pub level : node .above .values ≡ height
+  pub few : node .above .values ≤ node .above .policies
+  pub atMost : node .above .policies ≤ 16
+  pub same : (k : ℕ) → k < 16 → (j : ℕ) → j < 64
+      → remaining (run joined (policyValue (64 * (16 * group + k) + j)) (nodes (recordsFrom ws at)) (column j (heldWords values k height)))
+      ≡ says ws (64 * (16 * group + k) + j)
