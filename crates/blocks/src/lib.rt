@@ -38,7 +38,11 @@ fn sharing(low: u32, signal: u32) -> u64
     requires { ⌜ signal < 6 ⌝ }
     ensures { λ r. ⌜ WordOf (λ j. present low signal && present j signal) r ⌝ }
 {
-    if low >> signal & 1 == 1 { having(signal) } else { 0 }
+    if low >> signal & 1 == 1 {
+        having(signal)
+    } else {
+        0
+    }
 }
 
 // The sets of a block that share one of the six lowest signals with the mask.

@@ -1,3 +1,5 @@
 pub mod ReachLaws
 pub mod TableLaws
+pub mod MaskRuns
 pub mod Words
+pub mod GroupSteps

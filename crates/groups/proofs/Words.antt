@@ -7,11 +7,12 @@ use native.Mathlib.Omega.{arith}
 use lib.Bits.{bitAnd, bitOr}
 use lib.ListN.{getD}
 use Rattle.arith.specs.Tables.{Written}
-use Rattle.signals.specs.Sets.{present}
+use Rattle.signals.specs.Sets.{present, overlap}
 use Rattle.signals.proofs.BitLaws.{present-and, present-or, present-not}
-use Rattle.blocks.specs.Blocks.{WordOf}
+use Rattle.blocks.specs.Blocks.{WordOf, BlockOf}
 use Rattle.layout.specs.Records.{Join}
-use Rattle.rod.specs.Reading.{joined}
+use Rattle.layout.specs.Nodes.{ListedPolicy}
+use Rattle.rod.specs.Reading.{someLine, policyValue, joined}
 use Rattle.rod.specs.Values.{joinMeaning}
 use Rattle.groups.specs.Values.{valueWord, JoinedWord}
 
@@ -60,3 +61,9 @@ pub joined-here : (o : Join) (values : List ℕ) (height n : ℕ) (left : List �
     → WordOf (λ j. joined o (present (getD left (height * 16 + n) 0) j) (present (getD left (height * 16 + 16 + n) 0) j)) word → JoinedWord o height values n word
 joined-here o values height n left w word t j h =
     t j h ∙ ap₂ (λ (x y : ℕ). joined o (present x j) (present y j)) (w .others (height * 16 + n) (λ k l e. omega arith)) (w .others (height * 16 + 16 + n) (λ k l e. omega arith))
+
+-- from where its mask overlaps and where some of its lines lies inside, what a policy says of a block
+pub policy-told : (p : ListedPolicy) (block over found word : ℕ) → BlockOf (overlap (p .mask)) block over → BlockOf (someLine (p .lines)) block found
+    → WordOf (λ j. cond (present over j) (cond (p .turned) (not (present found j)) (present found j)) (p .quiet)) word → BlockOf (λ set. policyValue set p) block word
+unfolding policyValue
+policy-told p block over found word o f w j h = w j h ∙ rw (o j h, f j h) refl

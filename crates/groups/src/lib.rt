@@ -21,7 +21,11 @@ fn own_bit(mask: u32, group: u32) -> u64
     ensures { λ r. ⌜ r ≡ cond (eqb (bitAnd (mask / 1024) group) (mask / 1024)) (2 ^ (mask % 64)) 0 ⌝ }
 {
     let high = mask / 1024;
-    if high & group == high { 1 << (mask % 64) } else { 0 }
+    if high & group == high {
+        1 << (mask % 64)
+    } else {
+        0
+    }
 }
 
 // The mask's own set, of those in the group, is put into the table.
@@ -191,7 +195,7 @@ fn after_node(
 }
 
 // The table at the bottom of the values.
-fn bottom(values: &mut [u64; 256]) -> [u64; 16]
+fn bottom(values: &[u64; 256]) -> [u64; 16]
     requires { ⌜ length (now values) ≡ 256 ⌝ }
     ensures { λ r. ⌜ ((test : ℕ → Bool) (group : ℕ) → GroupOf test group (now (values .entry)) → GroupOf test group r) ⌝ }
 {

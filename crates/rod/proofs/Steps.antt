@@ -40,7 +40,7 @@ module _ (ws : List ℕ) (at : ℕ) (lt : at < length ws / 4) (node : NodeAt ws 
   abbrev rest : List Record
   rest = recordsFrom ws (at + 1)
 
-  step : (k : Kind) → k ≡ kindOf (getD ws (at * 4) 0)
+  pub step : (k : Kind) → k ≡ kindOf (getD ws (at * 4) 0)
       → (keepsLayout (at + 1) (node .above) k (recordAt ws at) (kinds rest) ≡ true) × (judged (at + 1) (soFarAfter (node .above) k (recordAt ws at)) rest ≡ result tt)
   step k e =
       let s = sound-step at (node .above) (recordAt ws at) rest (rw (from-cons ws at lt) at (node .sound)) in (
@@ -60,7 +60,7 @@ module _ (ws : List ℕ) (at : ℕ) (lt : at < length ws / 4) (node : NodeAt ws 
   not-unknown e = false≢true (step unknown e .0)
 
   -- the records behind it and its lines
-  pub node-after : (k : Kind) → k ≡ kindOf (getD ws (at * 4) 0) → NodeAt ws (nodeEnd ws at)
+  unfoldable pub node-after : (k : Kind) → k ≡ kindOf (getD ws (at * 4) 0) → NodeAt ws (nodeEnd ws at)
   unfolding nodeEnd
   node-after k e =
       record {
@@ -72,6 +72,14 @@ module _ (ws : List ℕ) (at : ℕ) (lt : at < length ws / 4) (node : NodeAt ws 
   nodes-after : nodes (recordsFrom ws (nodeEnd ws at)) ≡ nodes rest
   unfolding nodeEnd
   nodes-after = ap nodes (from-behind ws (at + 1)) ∙ behind-nodes rest
+
+  -- it is taken first, and then the nodes behind it
+  pub taken-here : (set : ℕ) (stack : List Bool) (k : Kind) → k ≡ kindOf (getD ws (at * 4) 0)
+      → remaining (run joined (policyValue set) (nodeThen k (getD ws (at * 4 + 1) 0) (leadingLines rest) (nodes (recordsFrom ws (nodeEnd ws at)))) stack)
+      ≡ remaining (run joined (policyValue set) (nodes (recordsFrom ws at)) stack)
+  taken-here set stack k e =
+      ap (λ (ns : List ListedNode). remaining (run joined (policyValue set) (nodeThen k (getD ws (at * 4 + 1) 0) (leadingLines rest) ns) stack)) nodes-after
+      ∙ ap (λ (ns : List ListedNode). remaining (run joined (policyValue set) ns stack)) (sym (nodes-here ws at k lt e))
 
   -- its lines are signal sets
   pub line-sets : (q t : Bool) → policy q t ≡ kindOf (getD ws (at * 4) 0) → AllSets (leadingLines rest)
@@ -121,20 +129,15 @@ module _ (ws : List ℕ) (at : ℕ) (lt : at < length ws / 4) (node : NodeAt ws 
 
 -- ---- the way
 
+unfoldable pub first-node : (ws : List ℕ) → verdict ws ≡ result tt → NodeAt ws 0
+unfolding recordsFrom noRecord
+first-node ws v = let j = sound-judged ws v .1 in record { above = noRecord; sound = j; noLine = no-owner 0 noRecord (records ws) refl j }
+
 -- before the first node there are no values
 pub begins : (ws : List ℕ) (set : ℕ) → verdict ws ≡ result tt → Underway ws set 0 0
-unfolding recordsFrom noRecord bitsOf says reading
+unfolding recordsFrom noRecord bitsOf says reading first-node
 begins ws set v =
-    let j = sound-judged ws v .1 in
-    record {
-      node = record { above = noRecord; sound = j; noLine = no-owner 0 noRecord (records ws) refl j };
-      stack = [];
-      held = refl;
-      height = refl;
-      few = omega arith;
-      atMost = omega arith;
-      same = refl;
-    }
+    record { node = first-node ws v; stack = []; held = refl; height = refl; few = omega arith; atMost = omega arith; same = refl }
 
 module _ (ws : List ℕ) (set at values : ℕ) (lt : at < length ws / 4) (u : Underway ws set at values) where
   pub values-small : values ≤ 65535
@@ -142,10 +145,7 @@ module _ (ws : List ℕ) (set at values : ℕ) (lt : at < length ws / 4) (u : Un
 
   same-here : (k : Kind) → k ≡ kindOf (getD ws (at * 4) 0)
       → remaining (run joined (policyValue set) (nodeThen k (getD ws (at * 4 + 1) 0) (leadingLines (recordsFrom ws (at + 1))) (nodes (recordsFrom ws (nodeEnd ws at)))) (u .stack)) ≡ says ws set
-  same-here k e =
-      ap (λ (ns : List ListedNode). remaining (run joined (policyValue set) (nodeThen k (getD ws (at * 4 + 1) 0) (leadingLines (recordsFrom ws (at + 1))) ns) (u .stack))) (nodes-after ws at lt (u .node))
-      ∙ ap (λ (ns : List ListedNode). remaining (run joined (policyValue set) ns (u .stack))) (sym (nodes-here ws at k lt e))
-      ∙ u .same
+  same-here k e = taken-here ws at lt (u .node) set (u .stack) k e ∙ u .same
 
   -- a policy adds its value
   pub past-policy : (q t : Bool) → policy q t ≡ kindOf (getD ws (at * 4) 0) → (v : Bool) (r : ℕ) → v ≡ policyValue set (policyAt ws at q t)

@@ -1,60 +1,58 @@
+-- `groups::some_inside`: the masks of the records before the next are in the table; then they are spread.
+use Prim.Native.Nat.{_-_, _/_, _<_}
+use denote.Ref.{now}
+use native.Mathlib.Omega.{arith}
+use lib.ListN.{length}
 use borrow.Author.Needs.{needs}
+use Rattle.groups.proofs.TableLaws.{Gathered, gathered-none, mask-within, mask-set, gathered-more, gathered-all, reached-all}
 use Rattle.groups.proofs.some_inside.Statement.{statement}
 use Rattle.groups.proofs.some_inside.Tie as tie
-use Rattle.groups.proofs.some_inside.Reads as reads
-use Rattle.groups.proofs.some_inside.Lts as lts
-use Rattle.groups.proofs.add_mask.Reads as add-mask-reads
-use Rattle.groups.proofs.spread.Reads as spread-reads
 
 abbrev Inv-loop : tie.InvT-loop
-Inv-loop words from end group table₀ i₀ table i = ?
+Inv-loop words from end group table₀ i₀ table i = Gathered words from end group table i
 
 abbrev μ-loop : tie.MeasureT-loop
-μ-loop words from end group table₀ i₀ table i = ?
+μ-loop words from end group table₀ i₀ table i = end - i
 
--- src/lib.rt:85:5
 loop-holds : tie.Need-loop-holds Inv-loop μ-loop
-loop-holds c = search needs
+loop-holds c = gathered-none _ _ _ _ (c .before .pre .1)
 
--- src/lib.rt:86:36
+-- the record at hand
+here : (c : tie.In-loop Inv-loop μ-loop) → c .before .loop .i < length (now (c .before .before .before .args .words)) / 4
+here c = mask-within (c .before .loop .inv) (c .loop-test .taken)
+
 mul-add-mask : tie.Need-mul-add-mask Inv-loop μ-loop
-mul-add-mask c = search needs
+mul-add-mask c = omega (arith, here (c .before))
 
--- src/lib.rt:86:36
 add-add-mask : tie.Need-add-add-mask Inv-loop μ-loop
-add-add-mask c = search needs
+add-add-mask c = omega (arith, here (c .before))
 
--- src/lib.rt:86:30
 mul-add-mask-2 : tie.Need-mul-add-mask-2 Inv-loop μ-loop
-mul-add-mask-2 c = search needs
+mul-add-mask-2 c = omega (arith, here (c .before))
 
--- src/lib.rt:86:30
 shared-slice-read-add-mask : tie.Need-shared-slice-read-add-mask Inv-loop μ-loop
-shared-slice-read-add-mask c = search needs
+shared-slice-read-add-mask c = omega (arith, here (c .before .before))
 
--- src/lib.rt:86:9
 add-mask-requires : tie.Need-add-mask-requires Inv-loop μ-loop
-add-mask-requires c κs = search needs
+add-mask-requires c κs = let t = c .before .before in let g = t .before .loop .inv in (g .room, mask-set g (t .loop-test .taken))
 
--- src/lib.rt:87:9
 add-i : tie.Need-add-i Inv-loop μ-loop
 add-i c = search needs
 
--- src/lib.rt:85:5
 loop-less : tie.Need-loop-less Inv-loop μ-loop
 loop-less c = search needs
 
--- src/lib.rt:85:5
 loop-again : tie.Need-loop-again Inv-loop μ-loop
-loop-again c = search needs
+loop-again c = let t = c .before .before .before in gathered-more (t .before .loop .inv) (t .loop-test .taken) _ (c .add-mask .ensures)
 
--- src/lib.rt:89:5
 spread-requires : tie.Need-spread-requires Inv-loop μ-loop
-spread-requires c κs = search needs
+spread-requires c κs = c .before .before .loop .inv .room
 
--- src/lib.rt:79:1
 returns : tie.Need-returns Inv-loop μ-loop
-returns c = search needs
+returns c =
+    let e = c .before .before in
+    let p = e .before .before .before .pre in
+    reached-all _ _ _ (p .0) (p .1 .sets) (c .spread .ensures _ _ (gathered-all (e .before .loop .inv) (e .loop-test .left)))
 
 pub some-inside-spec : {M : Type 1} → statement M
 some-inside-spec =

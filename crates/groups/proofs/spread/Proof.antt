@@ -1,54 +1,55 @@
+-- `groups::spread`: after each call the masks reach one signal further.
 use borrow.Author.Needs.{needs}
+use Rattle.groups.proofs.TableLaws.{reached-more}
 use Rattle.groups.proofs.spread.Statement.{statement}
 use Rattle.groups.proofs.spread.Tie as tie
-use Rattle.groups.proofs.spread.Reads as reads
-use Rattle.groups.proofs.spread.Lts as lts
-use Rattle.groups.proofs.spread_high.Reads as spread-high-reads
-use Rattle.groups.proofs.spread_low.Reads as spread-low-reads
 
--- src/lib.rt:66:5
 spread-low-requires : tie.Need-spread-low-requires
 spread-low-requires c κs = search needs
 
--- src/lib.rt:67:5
 spread-low-requires-2 : tie.Need-spread-low-requires-2
 spread-low-requires-2 c κs = search needs
 
--- src/lib.rt:68:5
 spread-low-requires-3 : tie.Need-spread-low-requires-3
 spread-low-requires-3 c κs = search needs
 
--- src/lib.rt:69:5
 spread-low-requires-4 : tie.Need-spread-low-requires-4
 spread-low-requires-4 c κs = search needs
 
--- src/lib.rt:70:5
 spread-low-requires-5 : tie.Need-spread-low-requires-5
 spread-low-requires-5 c κs = search needs
 
--- src/lib.rt:71:5
 spread-low-requires-6 : tie.Need-spread-low-requires-6
 spread-low-requires-6 c κs = search needs
 
--- src/lib.rt:72:5
 spread-high-requires : tie.Need-spread-high-requires
 spread-high-requires c κs = search needs
 
--- src/lib.rt:73:5
 spread-high-requires-2 : tie.Need-spread-high-requires-2
 spread-high-requires-2 c κs = search needs
 
--- src/lib.rt:74:5
 spread-high-requires-3 : tie.Need-spread-high-requires-3
 spread-high-requires-3 c κs = search needs
 
--- src/lib.rt:75:5
 spread-high-requires-4 : tie.Need-spread-high-requires-4
 spread-high-requires-4 c κs = search needs
 
--- src/lib.rt:62:1
 returns : tie.Need-returns
-returns c = search needs
+returns c =
+    let c8 = c .before .before in
+    let c7 = c8 .before .before in
+    let c6 = c7 .before .before in
+    let c5 = c6 .before .before in
+    let c4 = c5 .before .before in
+    let c3 = c4 .before .before in
+    let c2 = c3 .before .before in
+    let c1 = c2 .before .before in
+    let c0 = c1 .before .before in
+    λ masks group r.
+    reached-more 9 _ _ _ _ (reached-more 8 _ _ _ _ (reached-more 7 _ _ _ _ (reached-more 6 _ _ _ _ (reached-more 5 _ _ _ _
+    (reached-more 4 _ _ _ _ (reached-more 3 _ _ _ _ (reached-more 2 _ _ _ _ (reached-more 1 _ _ _ _ (reached-more 0 _ _ _ _ r (c0 .spread-low .ensures))
+    (c1 .spread-low2 .ensures)) (c2 .spread-low3 .ensures)) (c3 .spread-low4 .ensures)) (c4 .spread-low5 .ensures)) (c5 .spread-low6 .ensures))
+    (c6 .spread-high .ensures)) (c7 .spread-high2 .ensures)) (c8 .spread-high3 .ensures)) (c .spread-high4 .ensures)
 
 pub spread-spec : {M : Type 1} → statement M
 spread-spec =
