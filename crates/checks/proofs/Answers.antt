@@ -1,57 +1,46 @@
--- The checks' answers, by the verdicts and the lowest sets.
-use Prim.Native.Nat.{ℕ}
-use mathlib.Core.Bool.{Bool, true, false, not, Bool·beq}
+-- The checks' words, and their answers by the verdicts and the lowest sets.
+use Prim.Native.Nat.{ℕ, _+_, _-_, _*_, _^_, _<_}
+use mathlib.Core.Bool.{Bool, true, false, not, cond, _&&_, Bool·beq}
 use mathlib.Core.List.{List}
 use mathlib.Core.Option.{Option, none, some}
-use mathlib.Core.Path.{_≡_, refl, ap, _∙_}
+use mathlib.Core.Path.{_≡_, refl, ap, ap₂, _∙_}
+use lib.Bits.{bitAnd, bitXor}
 use Rattle.answers.specs.Answers.{result, refused}
+use Rattle.signals.specs.Sets.{present}
+use Rattle.signals.proofs.BitLaws.{present-and, present-xor, present-not}
+use Rattle.blocks.specs.Blocks.{WordOf, BlockOf}
 use Rattle.layout.specs.Judgement.{verdict}
 use Rattle.rod.specs.Reading.{says}
-use Rattle.checks.specs.Checks.{permitted, gives, lowestSet, lowestSince, always, never, both, choice, choiceOf, first, second, alike, differ, declined, comparison, comparisonOf, examined, differAt}
-use Rattle.checks.proofs.Search.{lowest-zero, lowest-above}
+use Rattle.checks.specs.Checks.{permitted, gives, lowestSet, always, never, both, choice, choiceOf, first, second, alike, differ, declined, comparison, comparisonOf, examined, differAt}
+use Rattle.checks.proofs.Search.{lowest-zero}
 use Rattle.checks.proofs.Pairs.{permitted-zero}
 
--- what is wanted of a set, by the code's branches
-module _ (ws : List ℕ) (want : Bool) (set : ℕ) where
-  module _ (p : permitted ws set ≡ true) (b : Bool) (e : b ≡ says ws set) where
-    pub wants-yes : want ≡ true → b ≡ gives ws want set
-    wants-yes w = rw (w, p) e
+-- ---- words
 
-    pub wants-no : want ≡ false → not b ≡ gives ws want set
-    wants-no w = rw (w, p) (ap not e)
+-- what is wanted of the sets of a block, by the code's branches
+module _ (free given : ℕ) (want : Bool) where
+  pub wants-yes : want ≡ true → WordOf (λ j. present free j && cond want (present given j) (not (present given j))) (bitAnd free given)
+  wants-yes w j h = rw w (present-and free given j)
 
-  pub wants-none : permitted ws set ≡ false → false ≡ gives ws want set
-  wants-none p = go want
-    where
-      go : (w : Bool) → false ≡ gives ws w set
-      go true = rw p refl
-      go false = rw p refl
+  pub wants-no : given < 2 ^ 64 → want ≡ false → WordOf (λ j. present free j && cond want (present given j) (not (present given j))) (bitAnd free (2 ^ 64 - 1 - given))
+  wants-no small w j h = rw w (present-and free (2 ^ 64 - 1 - given) j ∙ ap (λ (t : Bool). present free j && t) (present-not 64 given j small h))
 
-module _ (one two : List ℕ) (set : ℕ) where
-  module _ (p : permitted one set ≡ true) (q : permitted two set ≡ true) (a b : Bool) (ea : a ≡ says one set) (eb : b ≡ says two set) where
-    pub differ-yes : a ≡ true → not b ≡ differAt one two set
-    unfolding differAt
-    differ-yes h = rw (p, q, ← ea, ← eb, h) (go b)
-      where
-        go : (x : Bool) → not x ≡ not (Bool·beq true x)
-        go true = refl
-        go false = refl
+-- from what is permitted and what the listing says
+pub gives-word : (ws : List ℕ) (want : Bool) (block free given word : ℕ) → BlockOf (permitted ws) block free → BlockOf (says ws) block given
+    → WordOf (λ j. present free j && cond want (present given j) (not (present given j))) word → BlockOf (gives ws want) block word
+gives-word ws want block free given word p r w j h = w j h ∙ rw (p j h, r j h) (go want)
+  where
+    go : (b : Bool) → (permitted ws (64 * block + j) && cond b (says ws (64 * block + j)) (not (says ws (64 * block + j)))) ≡ gives ws b (64 * block + j)
+    go true = refl
+    go false = refl
 
-    pub differ-no : a ≡ false → b ≡ differAt one two set
-    unfolding differAt
-    differ-no h = rw (p, q, ← ea, ← eb, h) (go b)
-      where
-        go : (x : Bool) → x ≡ not (Bool·beq false x)
-        go true = refl
-        go false = refl
-
-  pub differ-first-out : permitted one set ≡ false → false ≡ differAt one two set
-  unfolding differAt
-  differ-first-out p = rw p refl
-
-  pub differ-second-out : permitted one set ≡ true → permitted two set ≡ false → false ≡ differAt one two set
-  unfolding differAt
-  differ-second-out p q = rw (p, q) refl
+-- where the two differ
+pub differ-word : (one two : List ℕ) (block p q a b : ℕ) → BlockOf (permitted one) block p → BlockOf (permitted two) block q → BlockOf (says one) block a → BlockOf (says two) block b
+    → BlockOf (differAt one two) block (bitAnd (bitAnd p q) (bitXor a b))
+unfolding differAt
+differ-word one two block p q a b wp wq wa wb j h =
+    present-and (bitAnd p q) (bitXor a b) j
+    ∙ ap₂ (λ (s t : Bool). s && t) (present-and p q j ∙ ap₂ (λ (s t : Bool). s && t) (wp j h) (wq j h)) (present-xor a b j ∙ ap₂ (λ (s t : Bool). not (Bool·beq s t)) (wa j h) (wb j h))
 
 -- ---- the choice check
 
@@ -64,31 +53,25 @@ module _ (ws : List ℕ) where
     gives-yes : gives ws true 0 ≡ true
     gives-yes = rw (permitted-zero ws v, ← yes) refl
 
-    not-no : gives ws false 0 ≡ false
-    not-no = rw (permitted-zero ws v, ← yes) refl
-
-    pub yes-then : (n : ℕ) → lowestSince 1 (gives ws false) ≡ some n → result (both 0 n) ≡ choice ws
+    pub yes-then : (n : ℕ) → lowestSet (gives ws false) ≡ some n → result (both 0 n) ≡ choice ws
     unfolding choiceOf
-    yes-then n e = chosen v (some 0) (some n) (lowest-zero (gives ws true) gives-yes) (lowest-above (gives ws false) not-no ∙ e)
+    yes-then n e = chosen v (some 0) (some n) (lowest-zero (gives ws true) gives-yes) e
 
-    pub yes-always : lowestSince 1 (gives ws false) ≡ none → result always ≡ choice ws
+    pub yes-always : lowestSet (gives ws false) ≡ none → result always ≡ choice ws
     unfolding choiceOf
-    yes-always e = chosen v (some 0) none (lowest-zero (gives ws true) gives-yes) (lowest-above (gives ws false) not-no ∙ e)
+    yes-always e = chosen v (some 0) none (lowest-zero (gives ws true) gives-yes) e
 
   module _ (v : verdict ws ≡ result tt) (no : false ≡ says ws 0) where
     gives-no : gives ws false 0 ≡ true
     gives-no = rw (permitted-zero ws v, ← no) refl
 
-    not-yes-there : gives ws true 0 ≡ false
-    not-yes-there = rw (permitted-zero ws v, ← no) refl
-
-    pub no-then : (y : ℕ) → lowestSince 1 (gives ws true) ≡ some y → result (both y 0) ≡ choice ws
+    pub no-then : (y : ℕ) → lowestSet (gives ws true) ≡ some y → result (both y 0) ≡ choice ws
     unfolding choiceOf
-    no-then y e = chosen v (some y) (some 0) (lowest-above (gives ws true) not-yes-there ∙ e) (lowest-zero (gives ws false) gives-no)
+    no-then y e = chosen v (some y) (some 0) e (lowest-zero (gives ws false) gives-no)
 
-    pub no-never : lowestSince 1 (gives ws true) ≡ none → result never ≡ choice ws
+    pub no-never : lowestSet (gives ws true) ≡ none → result never ≡ choice ws
     unfolding choiceOf
-    no-never e = chosen v none (some 0) (lowest-above (gives ws true) not-yes-there ∙ e) (lowest-zero (gives ws false) gives-no)
+    no-never e = chosen v none (some 0) e (lowest-zero (gives ws false) gives-no)
 
   pub choice-declined : (number value : ℕ) → verdict ws ≡ refused number value → refused number value ≡ choice ws
   unfolding choice

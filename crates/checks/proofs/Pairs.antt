@@ -1,28 +1,34 @@
--- The excluded pairs from an index on, as the code reads them.
-use Prim.Native.Nat.{ℕ, _+_, _*_, _/_, _≤_, _<_}
-use mathlib.Core.Bool.{Bool, true, false, not, _&&_}
+-- The excluded pairs from an index on, as the code reads them, and the sets without one.
+use Prim.Native.Nat.{ℕ, _+_, _-_, _*_, _/_, _≤_, _<_}
+use mathlib.Core.Bool.{Bool, true, false, not, Bool·not-not}
 use mathlib.Core.List.{List, [], _∷_}
 use mathlib.Core.Logic.{⊎-elim}
-use mathlib.Core.Path.{_≡_, refl, sym, ap, subst, _∙_}
+use mathlib.Core.Path.{_≡_, refl, sym, ap, _∙_}
 use native.Mathlib.Omega.{arith}
 use lib.Dec.{eqb}
 use lib.ListN.{length, getD}
 use borrow.Author.Tests.{eqb-true, eqb-false}
 use Rattle.answers.specs.Answers.{result}
 use Rattle.arith.specs.Lists.{every}
+use Rattle.arith.proofs.AnyEvery.{any-not-every}
 use Rattle.arith.proofs.Members.{each-in, each-out, every-each}
 use Rattle.arith.proofs.Order.{le-or-lt}
-use Rattle.signals.specs.Sets.{isSet, inside, isPair}
-use Rattle.signals.proofs.SetOfLaws.{pair-is-set, pair-not-empty}
+use Rattle.signals.specs.Sets.{present, inside, isPair}
+use Rattle.signals.proofs.SetOfLaws.{pair-small, pair-not-empty}
+use Rattle.blocks.specs.Blocks.{WordOf, BlockOf}
 use Rattle.layout.specs.Records.{Kind, policy, line, exclusion, unknown, exclusionKind, records, kindOf}
 use Rattle.layout.specs.Judgement.{verdict}
 use Rattle.layout.specs.Nodes.{pairThen, excluded}
-use Rattle.layout.specs.WellFormed.{ArePairs}
 use Rattle.layout.specs.Steps.{recordsFrom}
 use Rattle.layout.proofs.Soundness.{kind-exclusion}
 use Rattle.layout.proofs.Shape.{Numbered, numbered, sound-exclusions}
 use Rattle.layout.proofs.Places.{from-cons, from-nil}
+use Rattle.rod.specs.Reading.{someLine}
+use Rattle.rod.specs.Values.{lineAt, AllSets}
+use Rattle.groups.specs.Groups.{masksFrom, MasksAt}
+use Rattle.groups.proofs.MaskRuns.{masks-run, masks-at}
 use Rattle.checks.specs.Checks.{permitted}
+use Rattle.checks.specs.Meaning.{SoundWith}
 
 pub pair-here : (ws : List ℕ) (i : ℕ) → i < length ws / 4 → getD ws (i * 4) 0 ≡ 5 → excluded (recordsFrom ws i) ≡ getD ws (i * 4 + 1) 0 ∷ excluded (recordsFrom ws (i + 1))
 unfolding excluded pairThen exclusionKind
@@ -55,32 +61,34 @@ pair-left ws i some =
     go true e l = eqb-true _ _ e
     go false e l = absurd (omega (arith, ap length (no-pair-here ws i l (eqb-false _ _ e))))
 
--- no pair of these lies inside the set
-abbrev pub nonePresent : ℕ → List ℕ → Bool
-nonePresent set pairs = every (λ pair. not (inside pair set)) pairs
+-- ---- the sets without a pair
 
--- where no pairs are left, none lies inside
-pub no-pairs : (set : ℕ) (pairs : List ℕ) → length pairs ≤ 0 → nonePresent set pairs ≡ true
-no-pairs set [] h = refl
-no-pairs set (pair ∷ pairs) h = absurd (omega arith)
+-- the pairs' masks, as the records have them
+module _ (ws : List ℕ) (pairs : ℕ) (s : SoundWith ws pairs) where
+  pair-more : (i : ℕ) → 0 < length (excluded (recordsFrom ws i)) → (i < length ws / 4) × (excluded (recordsFrom ws i) ≡ lineAt ws i ∷ excluded (recordsFrom ws (i + 1)))
+  pair-more i some = let p = pair-left ws i some in (p .0, pair-here ws i (p .0) (p .1))
 
--- one pair, by whether it lies inside the set
-module _ (ws : List ℕ) (set i : ℕ) (h : i < length ws / 4) (e : getD ws (i * 4) 0 ≡ 5) (all : ArePairs (excluded (recordsFrom ws i)))
-    (b : Bool) (f : b ≡ (isSet (getD ws (i * 4 + 1) 0) && inside (getD ws (i * 4 + 1) 0) set)) where
-  these : ArePairs (getD ws (i * 4 + 1) 0 ∷ excluded (recordsFrom ws (i + 1)))
-  these = subst ArePairs (pair-here ws i h e) all
+  count : pairs ≡ 0 + length (excluded (recordsFrom ws 0))
+  unfolding recordsFrom
+  count = omega (arith, s .1)
 
-  told : inside (getD ws (i * 4 + 1) 0) set ≡ b
-  told = sym (rw (pair-is-set (getD ws (i * 4 + 1) 0) (these .0)) at f)
+  sets : AllSets (excluded (recordsFrom ws 0))
+  unfolding recordsFrom
+  sets = each-in (λ (m : ℕ). m ≤ 65535) (excluded (records ws)) (λ pair m. pair-small pair (each-out (λ (p : ℕ). isPair p ≡ true) (sound-exclusions ws (s .0) .0) m))
 
-  pub pair-inside : b ≡ true → nonePresent set (excluded (recordsFrom ws i)) ≡ false
-  pair-inside t = ap (nonePresent set) (pair-here ws i h e) ∙ rw (told ∙ t) refl
+  pub pair-masks : MasksAt ws 0 pairs
+  pair-masks = masks-at ws (λ i. excluded (recordsFrom ws i)) pair-more 0 pairs count (omega arith) sets
 
-  pub pairs-left : ArePairs (excluded (recordsFrom ws (i + 1)))
-  pairs-left = these .1
+  pub barred-else-permitted : (set : ℕ) → not (someLine (masksFrom ws 0 (pairs - 0)) set) ≡ permitted ws set
+  unfolding recordsFrom permitted someLine
+  barred-else-permitted set =
+      ap (λ (ms : List ℕ). not (someLine ms set)) (sym (masks-run ws (λ i. excluded (recordsFrom ws i)) pair-more 0 pairs count))
+      ∙ ap not (any-not-every (λ m. inside m set) (excluded (records ws))) ∙ Bool·not-not (every (λ m. not (inside m set)) (excluded (records ws)))
 
-  pub pair-outside : b ≡ false → nonePresent set (excluded (recordsFrom ws (i + 1))) ≡ nonePresent set (excluded (recordsFrom ws i))
-  pair-outside t = sym (ap (nonePresent set) (pair-here ws i h e) ∙ rw (told ∙ t) refl)
+-- a word of them
+pub permitted-word : (ws : List ℕ) (pairs block barred word : ℕ) → SoundWith ws pairs → BlockOf (someLine (masksFrom ws 0 (pairs - 0))) block barred
+    → WordOf (λ j. not (present barred j)) word → BlockOf (permitted ws) block word
+permitted-word ws pairs block barred word s b w j h = w j h ∙ ap not (b j h) ∙ barred-else-permitted ws pairs s (64 * block + j)
 
 -- set 0 has no pair
 pub permitted-zero : (ws : List ℕ) → verdict ws ≡ result tt → permitted ws 0 ≡ true

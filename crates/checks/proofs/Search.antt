@@ -1,10 +1,21 @@
--- The search for the lowest set, a set at a time.
-use Prim.Native.Nat.{ℕ, suc, _+_, _-_, _≤_, _<_}
+-- The search for the lowest set, a set, a block and a group at a time.
+use Prim.Native.Nat.{ℕ, zero, suc, _+_, _-_, _*_, _^_, _≤_, _<_}
 use mathlib.Core.Bool.{Bool, true, false, cond}
-use mathlib.Core.Option.{none, some}
+use mathlib.Core.List.{List}
+use mathlib.Core.Option.{Option, none, some}
 use mathlib.Core.Path.{_≡_, refl, sym, ap, _∙_}
+use native.Mathlib.Nat.{add-zero}
 use native.Mathlib.Omega.{arith}
+use lib.Count.{trailingZeros}
+use lib.ListN.{getD}
+use Rattle.signals.specs.Sets.{present}
+use Rattle.blocks.specs.Blocks.{BlockOf}
+use Rattle.groups.specs.Groups.{GroupOf}
+use Rattle.signals.proofs.BitLaws.{present-none, lowest-bit}
 use Rattle.checks.specs.Checks.{lowestFrom, lowestSince, lowestSet}
+use Rattle.checks.specs.declared.Found.{Found}
+use Rattle.checks.specs.declared.Found.the-variants.{At, Nowhere}
+use Rattle.checks.specs.Meaning.{foundMeaning, foundOr}
 
 step : (count set : ℕ) (test : ℕ → Bool) (b : Bool) → test set ≡ b → lowestFrom (suc count) set test ≡ cond b (some set) (lowestFrom count (set + 1) test)
 unfolding lowestFrom
@@ -36,6 +47,62 @@ module _ (test : ℕ → Bool) where
   unfolding lowestSet
   lowest-zero e = sym (found-here test 0 (omega arith) e)
 
-  pub lowest-above : test 0 ≡ false → lowestSet test ≡ lowestSince 1 test
-  unfolding lowestSet
-  lowest-above e = sym (found-later test 0 (omega arith) e)
+-- ---- a block at a time
+
+-- no set of these passes the test
+skipped : (test : ℕ → Bool) (set n : ℕ) → set + n ≤ 65536 → ((i : ℕ) → i < n → test (set + i) ≡ false) → lowestSince (set + n) test ≡ lowestSince set test
+skipped test set zero h fails = ap (λ (x : ℕ). lowestSince x test) (add-zero set)
+skipped test set (suc n) h fails =
+    ap (λ (x : ℕ). lowestSince x test) (next set n) ∙ found-later test (set + n) (omega arith) (fails n (omega arith)) ∙ skipped test set n (omega arith) (λ i l. fails i (omega arith))
+  where
+    next : (a b : ℕ) → a + suc b ≡ a + b + 1
+    next a b = omega arith
+
+module _ (test : ℕ → Bool) (block word : ℕ) (within : block ≤ 1023) (w : BlockOf test block word) where
+  pub block-later : word ≡ 0 → lowestSince (64 * (block + 1)) test ≡ lowestSince (64 * block) test
+  block-later e =
+      ap (λ (x : ℕ). lowestSince x test) (next block)
+      ∙ skipped test (64 * block) 64 (omega arith) (λ i l. sym (w i l) ∙ ap (λ (x : ℕ). present x i) e ∙ present-none i)
+    where
+      next : (b : ℕ) → 64 * (b + 1) ≡ 64 * b + 64
+      next b = omega arith
+
+  pub block-here : 0 < word → word < 2 ^ 64 → some (64 * block + trailingZeros 64 word) ≡ lowestSince (64 * block) test
+  block-here p h =
+      let l = lowest-bit 64 word p h in
+      found-here test (64 * block + trailingZeros 64 word) (omega (arith, l .0)) (sym (w (trailingZeros 64 word) (l .0)) ∙ l .1 .here)
+      ∙ skipped test (64 * block) (trailingZeros 64 word) (omega (arith, l .0)) (λ i b. sym (w i (omega (arith, l .0))) ∙ l .1 .none i b)
+
+-- ---- a group at a time
+
+-- the lowest set from block k of a group on is the lowest from the group on, by the words of a table before it
+pub record FromBlock (group : ℕ) (table : List ℕ) (k : ℕ) : Type 0 where
+  pub same : (test : ℕ → Bool) → GroupOf test group table → lowestSince (64 * (16 * group + k)) test ≡ lowestSince (1024 * group) test
+
+module _ (group : ℕ) (table : List ℕ) (within : group ≤ 63) where
+  pub from-group : FromBlock group table 0
+  from-group = record { same = λ test w. ap (λ (x : ℕ). lowestSince x test) (start group) }
+    where
+      start : (g : ℕ) → 64 * (16 * g + 0) ≡ 1024 * g
+      start g = omega arith
+
+  pub next-block : (k : ℕ) → k < 16 → FromBlock group table k → getD table k 0 ≡ 0 → FromBlock group table (k + 1)
+  next-block k l f e =
+      record { same = λ test w. ap (λ (x : ℕ). lowestSince x test) (next group k) ∙ block-later test (16 * group + k) (getD table k 0) (omega arith) (w k l) e ∙ f .same test w }
+    where
+      next : (g i : ℕ) → 64 * (16 * g + (i + 1)) ≡ 64 * (16 * g + i + 1)
+      next g i = omega arith
+
+  pub next-group : (k : ℕ) → k ≡ 16 → FromBlock group table k → (test : ℕ → Bool) → GroupOf test group table → lowestSince (1024 * (group + 1)) test ≡ lowestSince (1024 * group) test
+  next-group k e f test w = ap (λ (x : ℕ). lowestSince x test) (next group k e) ∙ f .same test w
+    where
+      next : (g i : ℕ) → i ≡ 16 → 1024 * (g + 1) ≡ 64 * (16 * g + i)
+      next g i e = omega arith
+
+-- a search that found a set, and one that goes on
+module _ (f : Found) (later whole : Option ℕ) (h : foundOr (foundMeaning f) later ≡ whole) where
+  pub found-set : (set : ℕ) → f ≡ At set → foundMeaning f ≡ whole
+  found-set set e = ap foundMeaning e ∙ sym (ap (λ (x : Found). foundOr (foundMeaning x) later) e) ∙ h
+
+  pub found-nowhere : f ≡ Nowhere → later ≡ whole
+  found-nowhere e = sym (ap (λ (x : Found). foundOr (foundMeaning x) later) e) ∙ h

@@ -1,5 +1,6 @@
 -- What the answers of the code mean, by document 01's numbers.
-use Prim.Native.Nat.{ℕ}
+use Prim.Native.Nat.{ℕ, _+_, _*_}
+use mathlib.Core.Bool.{Bool}
 use mathlib.Core.List.{List}
 use mathlib.Core.Option.{Option, none, some}
 use mathlib.Core.Path.{_≡_}
@@ -9,7 +10,8 @@ use Rattle.layout.specs.Records.{records}
 use Rattle.layout.specs.Nodes.{excluded}
 use Rattle.layout.specs.Judgement.{verdict}
 use Rattle.layout.specs.Meaning.{faultNumber, faultValue, faultMeaning}
-use Rattle.checks.specs.Checks.{Choice, always, never, both, Comparison, alike, differ, declined, first, second}
+use Rattle.groups.specs.Groups.{GroupOf}
+use Rattle.checks.specs.Checks.{lowestSince, Choice, always, never, both, Comparison, alike, differ, declined, first, second}
 use Rattle.checks.specs.declared.Found.{Found}
 use Rattle.checks.specs.declared.Found.the-variants.{At, Nowhere}
 use Rattle.checks.specs.declared.ChoiceAnswer.{ChoiceAnswer}
@@ -37,7 +39,20 @@ abbrev pub foundMeaning : Found → Option ℕ
 foundMeaning (At set) = some set
 foundMeaning Nowhere = none
 
--- how many excluded pairs a listing begins with (this and the next for inner contracts only)
+-- ---- for inner contracts only
+
+-- what was found, or what is found later
+abbrev pub foundOr : Option ℕ → Option ℕ → Option ℕ
+foundOr (some set) later = some set
+foundOr none later = later
+
+-- the lowest set from a group on is what was found in its table, or else the lowest from the next group on
+abbrev pub FoundIn : Found → ℕ → List ℕ → Type 0
+FoundIn found group table =
+    (test : ℕ → Bool) → GroupOf test group table
+    → foundOr (foundMeaning found) (lowestSince (1024 * (group + 1)) test) ≡ lowestSince (1024 * group) test
+
+-- how many excluded pairs a listing begins with
 abbrev pub pairCount : List ℕ → ℕ
 pairCount ws = length (excluded (records ws))
 

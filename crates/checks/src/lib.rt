@@ -1,14 +1,20 @@
-// The office's checks of a listing, and of two, over all signal sets without an excluded pair. A listing is examined once and
-// not for each set.
-ghost use mathlib.Core.Bool.{true, false};
+// The office's checks of a listing, and of two, over all signal sets without an excluded pair: in rising order, a group of 1,024
+// sets at a time (docs/DECISIONS.md, D36). A listing is examined once and not for each group.
+ghost use mathlib.Core.Bool.{Bool, not, cond, _&&_};
+ghost use mathlib.Core.Option.{some};
 ghost use mathlib.Core.Path.{_≡_};
+ghost use Prim.Native.Nat.{ℕ, _*_, _≤_, _<_};
+ghost use lib.ListN.{length};
 ghost use Rattle.answers.specs.Answers.{result};
+ghost use Rattle.signals.specs.Sets.{present};
+ghost use Rattle.blocks.specs.Blocks.{WordOf, BlockOf};
 ghost use Rattle.layout.specs.Judgement.{verdict};
+ghost use Rattle.groups.specs.Groups.{GroupOf};
 ghost use Rattle.checks.specs.Checks.{permitted, gives, lowestSet, lowestSince, choice, differAt, comparison};
-ghost use Rattle.checks.specs.Meaning.{pairCount, SoundWith, foundMeaning, choiceMeaning, comparisonMeaning};
+ghost use Rattle.checks.specs.Meaning.{pairCount, SoundWith, FoundIn, foundMeaning, choiceMeaning, comparisonMeaning};
 
-// How many signal sets there are.
-const SETS: u32 = 65536;
+// How many groups of 1,024 signal sets there are.
+const GROUPS: u32 = 64;
 
 // The lowest set, if there is one.
 pub enum Found {
@@ -30,47 +36,96 @@ fn pair_count(words: &[u32]) -> usize
     i
 }
 
-// The set has no excluded pair of the sound listing, which begins with so many. They are counted once and not for each set
-// (docs/DECISIONS.md, D35).
-fn is_permitted(words: &[u32], pairs: usize, set: u16) -> bool
-    requires { ⌜ SoundWith (now words) pairs ⌝ }
-    ensures { λ r. ⌜ r ≡ permitted (now (words .entry)) set ⌝ }
+// The sets that are not barred.
+fn free_word(barred: u64) -> u64
+    ensures { λ r. ⌜ WordOf (λ j. not (present barred j)) r ⌝ }
 {
-    let mut i = 0;
-    while i < pairs {
-        if signals::lies_inside(words[i * 4 + 1], set) {
-            return false;
+    !barred
+}
+
+// The sets of the group without an excluded pair of the sound listing, which begins with so many.
+fn group_permitted(words: &[u32], pairs: usize, group: u32) -> [u64; 16]
+    requires { ⌜ SoundWith (now words) pairs × (group ≤ 63) ⌝ }
+    ensures { λ r. ⌜ GroupOf (permitted (now (words .entry))) group r ⌝ }
+{
+    let barred = groups::some_inside(words, 0, pairs, group);
+    let mut free = [0u64; 16];
+    let mut k: usize = 0;
+    while k < 16 {
+        free[k] = free_word(barred[k]);
+        k += 1;
+    }
+    free
+}
+
+// The sets that are free, and give what is wanted.
+fn wanted_word(free: u64, yes: u64, want: bool) -> u64
+    ensures { λ r. ⌜ WordOf (λ j. present free j && cond want (present yes j) (not (present yes j))) r ⌝ }
+{
+    if want { free & yes } else { free & !yes }
+}
+
+// The sets of the group without an excluded pair on which the sound listing gives what is wanted.
+fn group_wanted(
+    words: &[u32],
+    pairs: usize,
+    want: bool,
+    group: u32,
+    values: &mut [u64; 256],
+) -> [u64; 16]
+    requires { ⌜ SoundWith (now words) pairs × (group ≤ 63) × (length (now values) ≡ 256) ⌝ }
+    ensures { λ r. ⌜ GroupOf (gives (now (words .entry)) want) group r × (length (now (values .exit)) ≡ 256) ⌝ }
+{
+    let free = group_permitted(words, pairs, group);
+    let given = groups::reading(words, group, values);
+    let mut wanted = [0u64; 16];
+    let mut k: usize = 0;
+    while k < 16 {
+        wanted[k] = wanted_word(free[k], given[k], want);
+        k += 1;
+    }
+    wanted
+}
+
+// The set of a word's lowest bit.
+fn lowest_in(block: u32, word: u64) -> u16
+    requires { ⌜ (block ≤ 1023) × (0 < word) ⌝ }
+    ensures { λ r. ⌜ ((test : ℕ → Bool) → BlockOf test block word → some r ≡ lowestSince (64 * block) test) ⌝ }
+{
+    (64 * block + u64::trailing_zeros(word)) as u16
+}
+
+// The lowest set that the group's table has.
+fn lowest_in_group(group: u32, table: [u64; 16]) -> Found
+    requires { ⌜ group ≤ 63 ⌝ }
+    ensures { λ r. ⌜ FoundIn r group table ⌝ }
+{
+    let mut k: usize = 0;
+    while k < 16 {
+        let word = table[k];
+        if word != 0 {
+            return Found::At(lowest_in(16 * group + k as u32, word));
         }
-        i += 1;
+        k += 1;
     }
-    true
+    Found::Nowhere
 }
 
-// The set has no excluded pair, and the sound listing gives what is wanted on it.
-fn gives_wanted(words: &[u32], pairs: usize, want: bool, set: u16) -> bool
-    requires { ⌜ SoundWith (now words) pairs ⌝ }
-    ensures { λ r. ⌜ r ≡ gives (now (words .entry)) want set ⌝ }
-{
-    if !is_permitted(words, pairs, set) {
-        return false;
-    }
-    let yes = rod::reading(words, set);
-    if want { yes } else { !yes }
-}
-
-// The lowest set above 0 on which the sound listing gives what is wanted.
-fn lowest_above(words: &[u32], want: bool) -> Found
+// The lowest set without an excluded pair on which the sound listing gives what is wanted.
+fn lowest_wanted(words: &[u32], want: bool) -> Found
     requires { ⌜ verdict (now words) ≡ result tt ⌝ }
-    ensures { λ r. ⌜ foundMeaning r ≡ lowestSince 1 (gives (now (words .entry)) want) ⌝ }
+    ensures { λ r. ⌜ foundMeaning r ≡ lowestSet (gives (now (words .entry)) want) ⌝ }
 {
     let pairs = pair_count(words);
-    let mut set: u32 = 1;
-    while set < SETS {
-        let s = set as u16;
-        if gives_wanted(words, pairs, want, s) {
-            return Found::At(s);
-        }
-        set += 1;
+    let mut values = [0u64; 256];
+    let mut group: u32 = 0;
+    while group < GROUPS {
+        let wanted = group_wanted(words, pairs, want, group, &mut values);
+        let f = lowest_in_group(group, wanted);
+        let Found::Nowhere = f else {
+            return f;
+        };
+        group += 1;
     }
     Found::Nowhere
 }
@@ -85,19 +140,19 @@ pub enum ChoiceAnswer {
     Declined(layout::Fault),
 }
 
-// Set 0 has no pair, and gives yes or no; the other answer is sought from set 1 on, so that one pass finds both.
+// Set 0 has no pair, and gives yes or no. So only the other answer is sought.
 fn sound_choice(words: &[u32]) -> ChoiceAnswer
     requires { ⌜ verdict (now words) ≡ result tt ⌝ }
     ensures { λ r. ⌜ choiceMeaning r ≡ choice (now (words .entry)) ⌝ }
 {
     if rod::reading(words, 0) {
-        let no = lowest_above(words, false);
+        let no = lowest_wanted(words, false);
         match no {
             Found::At(set) => ChoiceAnswer::Both(0, set),
             Found::Nowhere => ChoiceAnswer::Always,
         }
     } else {
-        let yes = lowest_above(words, true);
+        let yes = lowest_wanted(words, true);
         match yes {
             Found::At(set) => ChoiceAnswer::Both(set, 0),
             Found::Nowhere => ChoiceAnswer::Never,
@@ -115,20 +170,30 @@ pub fn choice(words: &[u32]) -> ChoiceAnswer
     }
 }
 
-// The set has no excluded pair of either sound listing, and the two differ on it. `one` begins with `pairs`, `two` with `others`.
-fn differ_on(one: &[u32], pairs: usize, two: &[u32], others: usize, set: u16) -> bool
-    requires { ⌜ SoundWith (now one) pairs × SoundWith (now two) others ⌝ }
-    ensures { λ r. ⌜ r ≡ differAt (now (one .entry)) (now (two .entry)) set ⌝ }
+// The sets of the group without an excluded pair of either sound listing where the two differ. `one` begins with `pairs`, `two`
+// with `others`.
+fn group_difference(
+    one: &[u32],
+    pairs: usize,
+    two: &[u32],
+    others: usize,
+    group: u32,
+    values: &mut [u64; 256],
+) -> [u64; 16]
+    requires { ⌜ SoundWith (now one) pairs × SoundWith (now two) others × (group ≤ 63) × (length (now values) ≡ 256) ⌝ }
+    ensures { λ r. ⌜ GroupOf (differAt (now (one .entry)) (now (two .entry))) group r × (length (now (values .exit)) ≡ 256) ⌝ }
 {
-    if !is_permitted(one, pairs, set) {
-        return false;
+    let free = group_permitted(one, pairs, group);
+    let also = group_permitted(two, others, group);
+    let first = groups::reading(one, group, values);
+    let second = groups::reading(two, group, values);
+    let mut apart = [0u64; 16];
+    let mut k: usize = 0;
+    while k < 16 {
+        apart[k] = free[k] & also[k] & (first[k] ^ second[k]);
+        k += 1;
     }
-    if !is_permitted(two, others, set) {
-        return false;
-    }
-    let a = rod::reading(one, set);
-    let b = rod::reading(two, set);
-    if a { !b } else { b }
+    apart
 }
 
 // The lowest set where the two sound listings differ.
@@ -138,13 +203,15 @@ fn lowest_difference(one: &[u32], two: &[u32]) -> Found
 {
     let pairs = pair_count(one);
     let others = pair_count(two);
-    let mut set: u32 = 0;
-    while set < SETS {
-        let s = set as u16;
-        if differ_on(one, pairs, two, others, s) {
-            return Found::At(s);
-        }
-        set += 1;
+    let mut values = [0u64; 256];
+    let mut group: u32 = 0;
+    while group < GROUPS {
+        let apart = group_difference(one, pairs, two, others, group, &mut values);
+        let f = lowest_in_group(group, apart);
+        let Found::Nowhere = f else {
+            return f;
+        };
+        group += 1;
     }
     Found::Nowhere
 }

@@ -1,17 +1,20 @@
--- `checks::lowest_difference`: the lowest set from here on is the lowest of those sought.
-use Prim.Native.Nat.{_-_}
-use mathlib.Core.Path.{_≡_, sym, _∙_}
-use Rattle.checks.specs.Checks.{lowestSince, lowestSet, differAt}
-use Rattle.checks.proofs.Search.{from-zero, found-here, found-later, found-none}
+-- `checks::lowest_difference`: the lowest set from this group on is the lowest of those sought.
+use Prim.Native.Nat.{_-_, _*_, _≤_}
+use mathlib.Core.Path.{_≡_, refl, _∙_}
+use native.Mathlib.Omega.{arith}
+use lib.ListN.{length}
 use borrow.Author.Needs.{needs}
+use Rattle.checks.proofs.Search.{from-zero, found-none, found-set, found-nowhere}
+use Rattle.checks.specs.Checks.{lowestSet, lowestSince, differAt}
 use Rattle.checks.proofs.lowest_difference.Statement.{statement}
 use Rattle.checks.proofs.lowest_difference.Tie as tie
 
 abbrev Inv-loop : tie.InvT-loop
-Inv-loop one two pairs others set₀ set = lowestSince set (differAt one two) ≡ lowestSet (differAt one two)
+Inv-loop one two pairs others values₀ group₀ values group =
+    (group ≤ 64) × (length values ≡ 256) × (lowestSince (1024 * group) (differAt one two) ≡ lowestSet (differAt one two))
 
 abbrev μ-loop : tie.MeasureT-loop
-μ-loop one two pairs others set₀ set = 65536 - set
+μ-loop one two pairs others values₀ group₀ values group = 64 - group
 
 pair-count-requires : tie.Need-pair-count-requires Inv-loop μ-loop
 pair-count-requires c κs = search needs
@@ -20,32 +23,47 @@ pair-count-requires-2 : tie.Need-pair-count-requires-2 Inv-loop μ-loop
 pair-count-requires-2 c κs = search needs
 
 loop-holds : tie.Need-loop-holds Inv-loop μ-loop
-loop-holds c = from-zero _
+loop-holds c = (omega arith, refl, from-zero _)
 
-cast-s : tie.Need-cast-s Inv-loop μ-loop
-cast-s c = search needs
+group-difference-requires : tie.Need-group-difference-requires Inv-loop μ-loop
+group-difference-requires c κs =
+    let t = c .before in
+    let n = t .before .before in
+    let p = n .before .before .before .before .pre in
+    ((p .0, n .before .pair-count .ensures), (p .1, n .pair-count2 .ensures), omega (arith, t .loop-test .taken), t .before .loop .inv .1)
 
-differ-on-requires : tie.Need-differ-on-requires Inv-loop μ-loop
-differ-on-requires c κs = search needs
+lowest-in-group-requires : tie.Need-lowest-in-group-requires Inv-loop μ-loop
+lowest-in-group-requires c κs = search needs
+
+enum-told : tie.Need-enum-told Inv-loop μ-loop
+enum-told c = search needs
+
+enum-told-2 : tie.Need-enum-told-2 Inv-loop μ-loop
+enum-told-2 c = search needs
 
 returns : tie.Need-returns Inv-loop μ-loop
 returns c =
-    let g = c .before in
-    found-here _ _ (g .before .loop-test .taken) (sym (g .differ-on .ensures) ∙ c .if1 .taken) ∙ g .before .before .loop .inv
+    let l = c .before .before in
+    let t = l .before .before .before in
+    found-set _ _ _ (l .lowest-in-group .ensures _ (l .before .group-difference .ensures .0)) _ (c .enum-told2 .given .1) ∙ t .before .loop .inv .2
 
-add-set : tie.Need-add-set Inv-loop μ-loop
-add-set c = search needs
+add-group : tie.Need-add-group Inv-loop μ-loop
+add-group c = search needs
 
 loop-less : tie.Need-loop-less Inv-loop μ-loop
 loop-less c = search needs
 
 loop-again : tie.Need-loop-again Inv-loop μ-loop
 loop-again c =
-    let g = c .before in
-    found-later _ _ (g .before .loop-test .taken) (sym (g .differ-on .ensures) ∙ c .if1 .left) ∙ g .before .before .loop .inv
+    let l = c .before .before in
+    let t = l .before .before .before in (
+      omega (arith, t .loop-test .taken),
+      l .before .group-difference .ensures .1,
+      found-nowhere _ _ _ (l .lowest-in-group .ensures _ (l .before .group-difference .ensures .0)) (c .enum-told .given .1) ∙ t .before .loop .inv .2,
+    )
 
 returns-2 : tie.Need-returns-2 Inv-loop μ-loop
-returns-2 c = found-none _ _ (c .loop-test .left) ∙ c .before .loop .inv
+returns-2 c = let l = c .before .loop in found-none _ _ (omega (arith, c .loop-test .left)) ∙ l .inv .2
 
 pub lowest-difference-spec : {M : Type 1} → statement M
 lowest-difference-spec =
@@ -56,10 +74,12 @@ lowest-difference-spec =
     pair-count-requires
     pair-count-requires-2
     loop-holds
-    cast-s
-    differ-on-requires
+    group-difference-requires
+    lowest-in-group-requires
+    enum-told
+    enum-told-2
     returns
-    add-set
+    add-group
     loop-less
     loop-again
     returns-2)

@@ -9,8 +9,8 @@ use Rattle.checks.proofs.sound_choice.Tie as tie
 reading-requires : tie.Need-reading-requires
 reading-requires c κs = c .before .pre
 
-lowest-above-requires : tie.Need-lowest-above-requires
-lowest-above-requires c κs = c .before .before .before .pre
+lowest-wanted-requires : tie.Need-lowest-wanted-requires
+lowest-wanted-requires c κs = c .before .before .before .pre
 
 enum-known-no : tie.Need-enum-known-no
 enum-known-no c = search needs
@@ -18,8 +18,8 @@ enum-known-no c = search needs
 enum-told : tie.Need-enum-told
 enum-told c = search needs
 
-lowest-above-requires-2 : tie.Need-lowest-above-requires-2
-lowest-above-requires-2 c κs = c .before .before .before .pre
+lowest-wanted-requires-2 : tie.Need-lowest-wanted-requires-2
+lowest-wanted-requires-2 c κs = c .before .before .before .pre
 
 enum-known-yes : tie.Need-enum-known-yes
 enum-known-yes c = search needs
@@ -32,36 +32,36 @@ returns c =
     let n = c .before in
     let l = n .before .before in
     let i = l .before in
-    yes-then _ (i .before .before .before .pre) (sym (i .if1 .taken) ∙ i .before .reading .ensures) _ (sym (l .lowest-above .ensures) ∙ ap foundMeaning (n .no .given .1))
+    yes-then _ (i .before .before .before .pre) (sym (i .if1 .taken) ∙ i .before .reading .ensures) _ (sym (l .lowest-wanted .ensures) ∙ ap foundMeaning (n .no .given .1))
 
 returns-2 : tie.Need-returns-2
 returns-2 c =
     let l = c .before .before in
     let i = l .before in
-    yes-always _ (i .before .before .before .pre) (sym (i .if1 .taken) ∙ i .before .reading .ensures) (sym (l .lowest-above .ensures) ∙ ap foundMeaning (c .enum-told .given .1))
+    yes-always _ (i .before .before .before .pre) (sym (i .if1 .taken) ∙ i .before .reading .ensures) (sym (l .lowest-wanted .ensures) ∙ ap foundMeaning (c .enum-told .given .1))
 
 returns-3 : tie.Need-returns-3
 returns-3 c =
     let y = c .before in
     let l = y .before .before in
     let i = l .before in
-    no-then _ (i .before .before .before .pre) (sym (i .if1 .left) ∙ i .before .reading .ensures) _ (sym (l .lowest-above2 .ensures) ∙ ap foundMeaning (y .yes .given .1))
+    no-then _ (i .before .before .before .pre) (sym (i .if1 .left) ∙ i .before .reading .ensures) _ (sym (l .lowest-wanted2 .ensures) ∙ ap foundMeaning (y .yes .given .1))
 
 returns-4 : tie.Need-returns-4
 returns-4 c =
     let l = c .before .before in
     let i = l .before in
-    no-never _ (i .before .before .before .pre) (sym (i .if1 .left) ∙ i .before .reading .ensures) (sym (l .lowest-above2 .ensures) ∙ ap foundMeaning (c .enum-told2 .given .1))
+    no-never _ (i .before .before .before .pre) (sym (i .if1 .left) ∙ i .before .reading .ensures) (sym (l .lowest-wanted2 .ensures) ∙ ap foundMeaning (c .enum-told2 .given .1))
 
 pub sound-choice-spec : {M : Type 1} → statement M
 sound-choice-spec =
     tie.close
     (tie.spec
     reading-requires
-    lowest-above-requires
+    lowest-wanted-requires
     enum-known-no
     enum-told
-    lowest-above-requires-2
+    lowest-wanted-requires-2
     enum-known-yes
     enum-told-2
     returns
