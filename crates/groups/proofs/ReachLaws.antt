@@ -78,14 +78,14 @@ reach-all (suc n) a b ha hb =
 pub mask-more : (s group x mask : ℕ) → maskReaches (suc s) group x mask ≡ (maskReaches s group x mask || maskReaches s group (without s x) mask)
 unfolding maskReaches
 mask-more s group x mask =
-    ap (λ (t : Bool). eqb (bitAnd (mask / 1024) group) (mask / 1024) && t) (reach-more s (mask % 1024) x)
-    ∙ both-or (eqb (bitAnd (mask / 1024) group) (mask / 1024)) (reaches s (mask % 1024) x) (reaches s (mask % 1024) (without s x))
+    ap (λ (t : Bool). inside (mask / 1024) group && t) (reach-more s (mask % 1024) x)
+    ∙ both-or (inside (mask / 1024) group) (reaches s (mask % 1024) x) (reaches s (mask % 1024) (without s x))
 
 -- spread over ten signals it is at each set that it lies inside
 pub mask-inside : (group x mask : ℕ) → mask ≤ 65535 → group ≤ 63 → x < 1024 → maskReaches 10 group x mask ≡ inside mask (1024 * group + x)
 unfolding maskReaches
 mask-inside group x mask small within h =
-    ap (λ (t : Bool). eqb (bitAnd (mask / 1024) group) (mask / 1024) && t)
+    ap₂ (λ (s t : Bool). s && t) (inside-and (mask / 1024) group (omega arith))
     (reach-all 10 (mask % 1024) x (omega arith) h ∙ inside-below 10 (mask % 1024) x (omega arith))
     ∙ and-comm (eqb (bitAnd (mask / 1024) group) (mask / 1024)) (eqb (bitAnd (mask % 1024) x) (mask % 1024))
     ∙ sym (digits 10 (bitAnd (mask / 1024) group) (mask / 1024) (bitAnd (mask % 1024) x) (mask % 1024) (omega (arith, bits.and-le-r (mask % 1024) x)) (omega arith))

@@ -41,13 +41,13 @@ own-set mask x h = ap₂ eqb (split mask) (whole x) ∙ digits 6 (mask / 64 % 16
 module _ (mask group : ℕ) (table : List ℕ) (room : length table ≡ 16) where
   -- the mask's six highest signals are all the group's
   abbrev high : Bool
-  high = eqb (bitAnd (mask / 1024) group) (mask / 1024)
+  high = inside (mask / 1024) group
 
   -- the mask's own block in the group
   abbrev own : ℕ
   own = mask / 64 % 16
 
-  pub mask-added : (word : ℕ) → word ≡ cond (eqb (bitAnd (mask / 1024) group) (mask / 1024)) (2 ^ (mask % 64)) 0
+  pub mask-added : (word : ℕ) → word ≡ cond (inside (mask / 1024) group) (2 ^ (mask % 64)) 0
       → Added mask group table (set table (mask / 64 % 16) (bitOr (getD table (mask / 64 % 16) 0) word))
   unfolding tells maskReaches reaches
   mask-added word e =

@@ -3,11 +3,10 @@ use Prim.Native.Nat.{ℕ, zero, suc, _+_, _-_, _*_, _/_, _%_, _≤_, _<_}
 use mathlib.Core.Bool.{Bool, not, _&&_, _||_}
 use mathlib.Core.List.{List, [], _∷_}
 use mathlib.Core.Path.{_≡_}
-use lib.Bits.{bitAnd}
 use lib.Dec.{eqb}
 use lib.ListN.{length, getD}
 use Rattle.arith.specs.Lists.{any}
-use Rattle.signals.specs.Sets.{present}
+use Rattle.signals.specs.Sets.{present, inside}
 use Rattle.blocks.specs.Blocks.{BlockOf, without}
 use Rattle.rod.specs.Values.{lineAt, AllSets}
 
@@ -39,7 +38,7 @@ reaches (suc n) a b = (not (present a 0) || present b 0) && reaches n (a / 2) (b
 
 -- the mask's six highest signals are all the group's, and the others reach set x
 unfoldable pub maskReaches : ℕ → ℕ → ℕ → ℕ → Bool
-maskReaches n group x mask = eqb (bitAnd (mask / 1024) group) (mask / 1024) && reaches n (mask % 1024) x
+maskReaches n group x mask = inside (mask / 1024) group && reaches n (mask % 1024) x
 
 -- a table tells of each set whether some mask reaches it
 pub record Reached (n : ℕ) (masks : List ℕ) (group : ℕ) (table : List ℕ) : Type 0 where

@@ -4,11 +4,9 @@ ghost use mathlib.Core.Bool.{Bool, not, cond};
 ghost use mathlib.Core.List.{List};
 ghost use mathlib.Core.Path.{_≡_};
 ghost use Prim.Native.Nat.{ℕ, _+_, _-_, _*_, _/_, _%_, _^_, _≤_, _<_};
-ghost use lib.Bits.{bitAnd};
-ghost use lib.Dec.{eqb};
 ghost use lib.ListN.{length, getD};
 ghost use Rattle.answers.specs.Answers.{result};
-ghost use Rattle.signals.specs.Sets.{present};
+ghost use Rattle.signals.specs.Sets.{present, inside};
 ghost use Rattle.blocks.specs.Blocks.{WordOf};
 ghost use Rattle.layout.specs.Judgement.{verdict};
 ghost use Rattle.rod.specs.Reading.{someLine, joined, says};
@@ -16,12 +14,21 @@ ghost use Rattle.rod.specs.Values.{joinMeaning, policyAt, nodeEnd};
 ghost use Rattle.groups.specs.Groups.{GroupOf, masksFrom, MasksAt, Reached, Added, Spread};
 ghost use Rattle.groups.specs.Values.{PolicyPut, JoinPut, PolicyHere, GroupUnderway};
 
-// The bit of the mask in the word of its own block, if its six highest signals are all the group's.
-fn own_bit(mask: u32, group: u32) -> u64
-    ensures { λ r. ⌜ r ≡ cond (eqb (bitAnd (mask / 1024) group) (mask / 1024)) (2 ^ (mask % 64)) 0 ⌝ }
+// The mask's six highest signals are all the group's.
+fn is_within(mask: u32, group: u32) -> bool
+    requires { ⌜ mask ≤ 65535 ⌝ }
+    ensures { λ r. ⌜ r ≡ inside (mask / 1024) group ⌝ }
 {
     let high = mask / 1024;
-    if high & group == high {
+    high & group == high
+}
+
+// The bit of the mask in the word of its own block, if that is one of the group's.
+fn own_bit(mask: u32, group: u32) -> u64
+    requires { ⌜ mask ≤ 65535 ⌝ }
+    ensures { λ r. ⌜ r ≡ cond (inside (mask / 1024) group) (2 ^ (mask % 64)) 0 ⌝ }
+{
+    if is_within(mask, group) {
         1 << (mask % 64)
     } else {
         0

@@ -1,6 +1,6 @@
 -- `groups::add_mask`: its own set, by block and bit.
-use Rattle.groups.proofs.TableLaws.{mask-added}
 use borrow.Author.Needs.{needs}
+use Rattle.groups.proofs.TableLaws.{mask-added}
 use Rattle.groups.proofs.add_mask.Statement.{statement}
 use Rattle.groups.proofs.add_mask.Tie as tie
 
