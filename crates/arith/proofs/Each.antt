@@ -25,6 +25,15 @@ module _ {A : Type 0} (P : A → Type 0) where
   each-more [] x e p = (p, tt)
   each-more (y ∷ xs) x e p = (e .0, each-more xs x (e .1) p)
 
+  -- of two lists, one after the other
+  pub each-front : (xs ys : List A) → Each P (xs ++ ys) → Each P xs
+  each-front [] ys e = tt
+  each-front (x ∷ xs) ys e = (e .0, each-front xs ys (e .1))
+
+  pub each-rest : (xs ys : List A) → Each P (xs ++ ys) → Each P ys
+  each-rest [] ys e = e
+  each-rest (x ∷ xs) ys e = each-rest xs ys (e .1)
+
   pub each-set : (xs : List A) (i : ℕ) (x : A) → Each P xs → P x → Each P (set xs i x)
   each-set [] i x e p = tt
   each-set (y ∷ xs) zero x e p = (p, e .1)

@@ -35,3 +35,14 @@ module _ (place : ℕ → ℕ) (Told : ℕ → ℕ → Type 0) (table : List ℕ
   -- as many as the code counted
   pub written-all : (m n : ℕ) (left : List ℕ) → n ≡ m → Written place Told n table left → Written place Told m table left
   written-all m n left e w = subst (λ (x : ℕ). Written place Told x table left) e w
+
+-- words written over words at the same places
+pub written-over : (place : ℕ → ℕ) (First Second : ℕ → ℕ → Type 0) (n : ℕ) (table mid left : List ℕ)
+    → Written place First n table mid → Written place Second n mid left → Written place Second n table left
+written-over place First Second n table mid left f s =
+    record { room = s .room ∙ f .room; told = s .told; others = λ i o. s .others i o ∙ f .others i o }
+
+-- what is told, said otherwise
+pub written-as : (place : ℕ → ℕ) (First Second : ℕ → ℕ → Type 0) (n : ℕ) (table left : List ℕ)
+    → ((k : ℕ) → k < n → (word : ℕ) → First k word → Second k word) → Written place First n table left → Written place Second n table left
+written-as place First Second n table left same w = record { room = w .room; told = λ k h. same k h _ (w .told k h); others = w .others }

@@ -166,7 +166,7 @@ overlap-done low word n small all w j h =
 
 -- in a block, by the test of the higher signals
 module _ (mask block j : ℕ) (small : mask ≤ 65535) (within : block ≤ 1023) (h : j < 64) where
-  shares : overlap mask (64 * block + j) ≡ not (eqb (bitAnd (mask % 64) j) 0 && eqb (bitAnd (mask / 64) block) 0)
+  pub shares : overlap mask (64 * block + j) ≡ not (eqb (bitAnd (mask % 64) j) 0 && eqb (bitAnd (mask / 64) block) 0)
   shares =
       overlap-and mask (64 * block + j) (omega arith)
       ∙ ap (λ (x : ℕ). not (eqb x 0)) (ap₂ bitAnd (split mask) (turned block j) ∙ and-block 6 (mask / 64) block (mask % 64) j (omega arith) h)

@@ -7,7 +7,14 @@ ghost use Rattle.signals.specs.Sets.{present, overlap};
 ghost use Rattle.blocks.specs.Blocks.{WordOf, BlockOf, without};
 
 // Every set of a block.
-pub const ALL: u64 = 0xffffffffffffffff;
+const ALL: u64 = 0xffffffffffffffff;
+
+// Every set of a block, or none.
+pub fn all_if(yes: bool) -> u64
+    ensures { λ r. ⌜ WordOf (λ j. yes) r ⌝ }
+{
+    if yes { ALL } else { 0 }
+}
 
 // The sets of a block that have the signal, one of the six lowest.
 fn having(signal: u32) -> u64

@@ -22,69 +22,29 @@ pub enum Found {
     Nowhere,
 }
 
-// How many excluded pairs the listing begins with.
-fn pair_count(words: &[u32]) -> usize
-    ensures { λ r. ⌜ r ≡ pairCount (now (words .entry)) ⌝ }
-{
-    let mut i = 0;
-    while i < words.len() / 4 {
-        if words[i * 4] != layout::EXCLUSION {
-            return i;
-        }
-        i += 1;
-    }
-    i
-}
-
-// The sets that are not barred.
-fn free_word(barred: u64) -> u64
-    ensures { λ r. ⌜ WordOf (λ j. not (present barred j)) r ⌝ }
-{
-    !barred
-}
-
-// The sets of the group without an excluded pair of the sound listing, which begins with so many.
-fn group_permitted(words: &[u32], pairs: usize, group: u32) -> [u64; 16]
+// The sets of the group with an excluded pair of the sound listing, which begins with so many.
+fn group_barred(words: &[u32], pairs: usize, group: u32) -> [u64; 16]
     requires { ⌜ SoundWith (now words) pairs × (group ≤ 63) ⌝ }
-    ensures { λ r. ⌜ GroupOf (permitted (now (words .entry))) group r ⌝ }
+    ensures { λ r. ⌜ GroupOf (λ set. not (permitted (now (words .entry)) set)) group r ⌝ }
 {
-    let barred = groups::some_inside(words, 0, pairs, group);
-    let mut free = [0u64; 16];
-    let mut k: usize = 0;
-    while k < 16 {
-        free[k] = free_word(barred[k]);
-        k += 1;
+    let mut table = [0u64; 16];
+    if pairs == 0 {
+        return table;
     }
-    free
+    groups::gather(words, 0, pairs, group, &mut table);
+    groups::spread(&mut table);
+    table
 }
 
-// The sets that are free, and give what is wanted.
-fn wanted_word(free: u64, yes: u64, want: bool) -> u64
-    ensures { λ r. ⌜ WordOf (λ j. present free j && cond want (present yes j) (not (present yes j))) r ⌝ }
+// The sets that are not barred, and give what is wanted.
+fn wanted_word(barred: u64, given: u64, want: bool) -> u64
+    ensures { λ r. ⌜ WordOf (λ j. not (present barred j) && cond want (present given j) (not (present given j))) r ⌝ }
 {
-    if want { free & yes } else { free & !yes }
-}
-
-// The sets of the group without an excluded pair on which the sound listing gives what is wanted.
-fn group_wanted(
-    words: &[u32],
-    pairs: usize,
-    want: bool,
-    group: u32,
-    values: &mut [u64; 256],
-) -> [u64; 16]
-    requires { ⌜ SoundWith (now words) pairs × (group ≤ 63) × (length (now values) ≡ 256) ⌝ }
-    ensures { λ r. ⌜ GroupOf (gives (now (words .entry)) want) group r × (length (now (values .exit)) ≡ 256) ⌝ }
-{
-    let free = group_permitted(words, pairs, group);
-    let given = groups::reading(words, group, values);
-    let mut wanted = [0u64; 16];
-    let mut k: usize = 0;
-    while k < 16 {
-        wanted[k] = wanted_word(free[k], given[k], want);
-        k += 1;
+    if want {
+        !barred & given
+    } else {
+        !barred & !given
     }
-    wanted
 }
 
 // The set of a word's lowest bit.
@@ -95,14 +55,16 @@ fn lowest_in(block: u32, word: u64) -> u16
     (64 * block + u64::trailing_zeros(word)) as u16
 }
 
-// The lowest set that the group's table has.
-fn lowest_in_group(group: u32, table: [u64; 16]) -> Found
-    requires { ⌜ group ≤ 63 ⌝ }
-    ensures { λ r. ⌜ FoundIn r group table ⌝ }
+// The lowest set of the group without an excluded pair on which the sound listing gives what is wanted.
+fn wanted_in(words: &[u32], pairs: usize, want: bool, group: u32, values: &mut [u64; 256]) -> Found
+    requires { ⌜ SoundWith (now words) pairs × (group ≤ 63) × (length (now values) ≡ 256) ⌝ }
+    ensures { λ r. ⌜ FoundIn (gives (now (words .entry)) want) group r × (length (now (values .exit)) ≡ 256) ⌝ }
 {
+    let barred = group_barred(words, pairs, group);
+    groups::reading(words, pairs, group, values);
     let mut k: usize = 0;
     while k < 16 {
-        let word = table[k];
+        let word = wanted_word(barred[k], values[k], want);
         if word != 0 {
             return Found::At(lowest_in(16 * group + k as u32, word));
         }
@@ -116,12 +78,11 @@ fn lowest_wanted(words: &[u32], want: bool) -> Found
     requires { ⌜ verdict (now words) ≡ result tt ⌝ }
     ensures { λ r. ⌜ foundMeaning r ≡ lowestSet (gives (now (words .entry)) want) ⌝ }
 {
-    let pairs = pair_count(words);
+    let pairs = groups::pair_count(words);
     let mut values = [0u64; 256];
     let mut group: u32 = 0;
     while group < GROUPS {
-        let wanted = group_wanted(words, pairs, want, group, &mut values);
-        let f = lowest_in_group(group, wanted);
+        let f = wanted_in(words, pairs, want, group, &mut values);
         let Found::Nowhere = f else {
             return f;
         };
@@ -170,30 +131,42 @@ pub fn choice(words: &[u32]) -> ChoiceAnswer
     }
 }
 
-// The sets of the group without an excluded pair of either sound listing where the two differ. `one` begins with `pairs`, `two`
-// with `others`.
-fn group_difference(
+// The sets that are barred by neither, and on which the two differ.
+fn apart_word(barred: u64, also: u64, first: u64, second: u64) -> u64
+    ensures { λ r. ⌜ WordOf (apartBit barred also first second) r ⌝ }
+{
+    !barred & !also & (first ^ second)
+}
+
+// The lowest set of the group without an excluded pair of either sound listing where the two differ. `one` begins with `pairs`,
+// `two` with `others`.
+fn difference_in(
     one: &[u32],
     pairs: usize,
     two: &[u32],
     others: usize,
     group: u32,
-    values: &mut [u64; 256],
-) -> [u64; 16]
-    requires { ⌜ SoundWith (now one) pairs × SoundWith (now two) others × (group ≤ 63) × (length (now values) ≡ 256) ⌝ }
-    ensures { λ r. ⌜ GroupOf (differAt (now (one .entry)) (now (two .entry))) group r × (length (now (values .exit)) ≡ 256) ⌝ }
+    firsts: &mut [u64; 256],
+    seconds: &mut [u64; 256],
+) -> Found
+    requires { ⌜ SoundWith (now one) pairs × SoundWith (now two) others × (group ≤ 63) ⌝ }
+    requires { ⌜ (length (now firsts) ≡ 256) × (length (now seconds) ≡ 256) ⌝ }
+    ensures { λ r. ⌜ FoundIn (differAt (now (one .entry)) (now (two .entry))) group r ⌝ }
+    ensures { λ _. ⌜ (length (now (firsts .exit)) ≡ 256) × (length (now (seconds .exit)) ≡ 256) ⌝ }
 {
-    let free = group_permitted(one, pairs, group);
-    let also = group_permitted(two, others, group);
-    let first = groups::reading(one, group, values);
-    let second = groups::reading(two, group, values);
-    let mut apart = [0u64; 16];
+    let barred = group_barred(one, pairs, group);
+    let also = group_barred(two, others, group);
+    groups::reading(one, pairs, group, firsts);
+    groups::reading(two, others, group, seconds);
     let mut k: usize = 0;
     while k < 16 {
-        apart[k] = free[k] & also[k] & (first[k] ^ second[k]);
+        let word = apart_word(barred[k], also[k], firsts[k], seconds[k]);
+        if word != 0 {
+            return Found::At(lowest_in(16 * group + k as u32, word));
+        }
         k += 1;
     }
-    apart
+    Found::Nowhere
 }
 
 // The lowest set where the two sound listings differ.
@@ -201,13 +174,13 @@ fn lowest_difference(one: &[u32], two: &[u32]) -> Found
     requires { ⌜ (verdict (now one) ≡ result tt) × (verdict (now two) ≡ result tt) ⌝ }
     ensures { λ r. ⌜ foundMeaning r ≡ lowestSet (differAt (now (one .entry)) (now (two .entry))) ⌝ }
 {
-    let pairs = pair_count(one);
-    let others = pair_count(two);
-    let mut values = [0u64; 256];
+    let pairs = groups::pair_count(one);
+    let others = groups::pair_count(two);
+    let mut firsts = [0u64; 256];
+    let mut seconds = [0u64; 256];
     let mut group: u32 = 0;
     while group < GROUPS {
-        let apart = group_difference(one, pairs, two, others, group, &mut values);
-        let f = lowest_in_group(group, apart);
+        let f = difference_in(one, pairs, two, others, group, &mut firsts, &mut seconds);
         let Found::Nowhere = f else {
             return f;
         };

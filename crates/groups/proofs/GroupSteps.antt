@@ -14,13 +14,14 @@ use Rattle.layout.specs.Records.{Join, Kind, policy, exclusion, kindOf, kinds}
 use Rattle.layout.specs.Judgement.{noRecord, soFarAfter, verdict}
 use Rattle.layout.specs.Nodes.{ListedNode, leadingLines, nodeThen, nodes}
 use Rattle.layout.specs.Steps.{recordAt, recordsFrom}
-use Rattle.layout.proofs.Shape.{kept-policy, kept-join, sound-well-formed}
+use Rattle.layout.proofs.Shape.{kept-policy, kept-join, no-owner, sound-well-formed}
 use Rattle.layout.proofs.Places.{from-nil}
 use Rattle.rod.specs.Reading.{policyValue, joined, remaining, reading, says}
 use Rattle.rod.specs.Values.{policyAt, nodeEnd}
 use Rattle.rod.proofs.Steps.{step, node-after, line-sets, taken-here, first-node}
-use Rattle.groups.specs.Groups.{GroupOf}
+use Rattle.groups.specs.Groups.{GroupOf, SoundWith}
 use Rattle.groups.specs.Values.{valueWord, PolicyWord, PolicyPut, JoinedWord, JoinPut, PolicyHere, heldWords, column, GroupUnderway}
+use Rattle.groups.proofs.Pairs.{pair-kind}
 
 -- ---- the words held
 
@@ -100,6 +101,11 @@ module _ (ws : List ℕ) (group at : ℕ) (values : List ℕ) (height : ℕ) (lt
         same = λ k b j h. taken-here ws at lt (u .node) (64 * (16 * group + k) + j) (column j (heldWords values k height)) exclusion e ∙ u .same k b j h;
       }
 
+  -- and no line follows it
+  pub pair-end : exclusion ≡ kindOf (getD ws (at * 4) 0) → suc at ≡ nodeEnd ws at
+  unfolding nodeEnd soFarAfter
+  pair-end e = omega (arith, ap length (no-owner (at + 1) _ (recordsFrom ws (at + 1)) refl (step ws at lt (u .node) exclusion e .1)))
+
   -- a join makes one value of two
   module _ (o : Join) (e : Kind.join o ≡ kindOf (getD ws (at * 4) 0)) where
     pub two-values : 2 ≤ height
@@ -138,6 +144,14 @@ module _ (ws : List ℕ) (group at : ℕ) (values : List ℕ) (height : ℕ) (lt
 pub group-at-end : (ws : List ℕ) (group at end : ℕ) (values : List ℕ) (height : ℕ) → end ≡ nodeEnd ws at
     → GroupUnderway ws group (nodeEnd ws at) values height → GroupUnderway ws group end values height
 group-at-end ws group at end values height e u = subst (λ (x : ℕ). GroupUnderway ws group x values height) (sym e) u
+
+-- past the pairs that the listing begins with
+pub past-pairs : (ws : List ℕ) (pairs group : ℕ) (values : List ℕ) → length values ≡ 256 → SoundWith ws pairs → group ≤ 63 → (n : ℕ) → n ≤ pairs → GroupUnderway ws group n values 0
+past-pairs ws pairs group values room s within zero h = group-begins ws group values room (s .0) within
+past-pairs ws pairs group values room s within (suc n) h =
+    let p = pair-kind ws pairs s n (omega arith) in
+    let u = past-pairs ws pairs group values room s within n (omega arith) in
+    group-at-end ws group n (suc n) values 0 (pair-end ws group n values 0 (p .0) u (p .1)) (past-group-exclusion ws group n values 0 (p .0) u (p .1))
 
 -- behind the last record one value remains
 pub group-ends : (ws : List ℕ) (group at : ℕ) (values : List ℕ) (height : ℕ) → length ws / 4 ≤ at → GroupUnderway ws group at values height → GroupOf (says ws) group values

@@ -1,32 +1,48 @@
 -- Masks in a table: put in at their own sets, and spread from signal to signal.
 use Prim.Native.Nat.{ℕ, zero, suc, _+_, _-_, _*_, _/_, _%_, _^_, _≤_, _<_}
 use mathlib.Core.Bool.{Bool, true, false, cond, _&&_, _||_, and-true, and-false, or-assoc, or-false, or-self}
-use mathlib.Core.List.{List, [], _∷_}
+use mathlib.Core.List.{List, [], _∷_, _++_}
 use mathlib.Core.Logic.{⊎-elim}
 use mathlib.Core.Path.{_≡_, refl, sym, ap, ap₂, subst, _∙_}
+use native.Mathlib.Nat.{add-zero, zero-add, suc-add}
 use native.Mathlib.Omega.{arith}
-use lib.Bits.{bitAnd, bitOr}
+use lib.Bits.{bitAnd, bitOr, and-block, and-zero-r}
 use lib.Dec.{eqb}
 use lib.ListN.{length, getD, set, length-set, replicate}
 use lib.Seq.{getD-set-same, getD-set-other}
 use borrow.Author.Tests.{eqb-true, eqb-false}
 use Rattle.arith.specs.Lists.{any, every, below}
 use Rattle.arith.specs.Tables.{Written}
-use Rattle.arith.proofs.AnyEvery.{any-same, any-either}
+use Rattle.arith.proofs.AnyEvery.{any-append, any-either}
 use Rattle.arith.proofs.Below.{every-below}
 use Rattle.arith.proofs.Digits.{digits}
+use Rattle.arith.proofs.Each.{each-front, each-rest}
 use Rattle.arith.proofs.Order.{le-or-lt}
 use Rattle.signals.specs.Sets.{present, inside}
 use Rattle.signals.proofs.BitLaws.{present-or, present-none}
+use Rattle.signals.proofs.SetLaws.{inside-and, none-lacking}
 use Rattle.signals.proofs.SetOfLaws.{present-one}
 use Rattle.blocks.specs.Blocks.{WordOf, without}
 use Rattle.blocks.proofs.BlockLaws.{without-less, without-twice, low-without, high-without}
 use Rattle.rod.specs.Reading.{someLine}
 use Rattle.rod.specs.Values.{lineAt, AllSets}
-use Rattle.groups.specs.Groups.{GroupOf, masksFrom, MasksAt, tells, reaches, maskReaches, Reached, Added, Spread}
+use Rattle.groups.specs.Groups.{GroupOf, masksFrom, MasksAt, tells, reaches, maskReaches, Reached, Added, Gathered, Spread}
 use Rattle.groups.proofs.ReachLaws.{mask-more, mask-inside}
 
 -- ---- one mask more
+
+-- the mask's highest signals are all the group's, by the code's test
+pub within-test : (mask group : ℕ) → mask ≤ 65535 → group ≤ 63 → eqb (bitAnd mask ((63 - group) * 1024)) 0 ≡ inside (mask / 1024) group
+within-test mask group small h =
+    ap (λ (x : ℕ). eqb x 0)
+    (ap₂ bitAnd (split mask) (sym (add-zero ((63 - group) * 1024))) ∙ and-block 10 (mask / 1024) (63 - group) (mask % 1024) 0 (omega arith) (omega arith)
+    ∙ ap (λ (x : ℕ). bitAnd (mask / 1024) (63 - group) * 1024 + x) (and-zero-r (mask % 1024)))
+    ∙ digits 10 (bitAnd (mask / 1024) (63 - group)) 0 0 0 (omega arith) (omega arith)
+    ∙ none-lacking 6 (mask / 1024) group (omega arith) (omega arith)
+    ∙ sym (inside-and (mask / 1024) group (omega arith))
+  where
+    split : (m : ℕ) → m ≡ m / 1024 * 1024 + m % 1024
+    split m = omega arith
 
 -- set x of the group is the mask's own, by block and bit
 own-set : (mask x : ℕ) → x < 1024 → eqb (mask % 1024) x ≡ (eqb (mask % 64) (x % 64) && eqb (mask / 64 % 16) (x / 64))
@@ -77,6 +93,11 @@ module _ (mask group : ℕ) (table : List ℕ) (room : length table ≡ 16) wher
           ∙ sym (or-false (present (getD table (x / 64) 0) (x % 64)))
           ∙ ap (λ (t : Bool). present (getD table (x / 64) 0) (x % 64) || t)
           (sym (ap (λ (t : Bool). high && (eqb (mask % 64) (x % 64) && t)) q ∙ ap (λ (t : Bool). high && t) (and-false (eqb (mask % 64) (x % 64))) ∙ and-false high))
+
+  pub mask-left : inside (mask / 1024) group ≡ false → Added mask group table table
+  unfolding maskReaches
+  mask-left e =
+      record { room = room; told = λ x h. sym (or-false (tells table x)) ∙ ap (λ (t : Bool). tells table x || t) (sym (ap (λ (t : Bool). t && reaches 0 (mask % 1024) x) e)) }
 
 -- ---- one signal more
 
@@ -157,31 +178,58 @@ reached-more s masks group table left r p =
 
 -- ---- the records' masks
 
--- the masks before index i are in the table
-pub record Gathered (ws : List ℕ) (from end group : ℕ) (table : List ℕ) (i : ℕ) : Type 0 where
-  pub left : MasksAt ws i end
-  pub room : length table ≡ 16
-  pub same : (x : ℕ) → x < 1024
-      → (tells table x || any (maskReaches 0 group x) (masksFrom ws i (end - i))) ≡ any (maskReaches 0 group x) (masksFrom ws from (end - from))
-
-pub gathered-none : (ws : List ℕ) (from end group : ℕ) → MasksAt ws from end → Gathered ws from end group (replicate 16 0) from
-unfolding tells
-gathered-none ws from end group m =
-    record {
-      left = m;
-      room = refl;
-      same = λ x h.
-          ap (λ (t : Bool). t || any (maskReaches 0 group x) (masksFrom ws from (end - from))) (ap (λ (w : ℕ). present w (x % 64)) (zeros 16 (x / 64)) ∙ present-none (x % 64));
-    }
+-- so many records and those after them
+masks-append : (ws : List ℕ) (n i m : ℕ) → masksFrom ws i (n + m) ≡ masksFrom ws i n ++ masksFrom ws (i + n) m
+unfolding masksFrom
+masks-append ws zero i m = ap₂ (λ (x y : ℕ). masksFrom ws x y) (sym (add-zero i)) (zero-add m)
+masks-append ws (suc n) i m =
+    ap (masksFrom ws i) (suc-add n m)
+    ∙ ap (λ (ms : List ℕ). lineAt ws i ∷ ms) (masks-append ws n (i + 1) m ∙ ap (λ (x : ℕ). masksFrom ws (i + 1) n ++ masksFrom ws x m) (next i n))
   where
-    zeros : (n i : ℕ) → _≡_ {A = ℕ} (getD (replicate n 0) i 0) 0
-    zeros zero i = refl
-    zeros (suc n) zero = refl
-    zeros (suc n) (suc i) = zeros n i
+    next : (a c : ℕ) → a + 1 + c ≡ a + suc c
+    next a c = omega arith
 
-module _ {ws : List ℕ} {from end group : ℕ} {table : List ℕ} {i : ℕ} (g : Gathered ws from end group table i) where
+module _ (ws : List ℕ) (from mid end : ℕ) (h : from ≤ mid) (g : mid ≤ end) where
+  in-two : masksFrom ws from (end - from) ≡ masksFrom ws from (mid - from) ++ masksFrom ws mid (end - mid)
+  in-two = ap (masksFrom ws from) whole ∙ masks-append ws (mid - from) from (end - mid) ∙ ap (λ (x : ℕ). masksFrom ws from (mid - from) ++ masksFrom ws x (end - mid)) reached
+    where
+      whole : end - from ≡ mid - from + (end - mid)
+      whole = omega arith
+
+      reached : from + (mid - from) ≡ mid
+      reached = omega arith
+
+  pub masks-front : MasksAt ws from end → MasksAt ws from mid
+  masks-front m = record { ordered = h; within = omega (arith, m .within); sets = each-front (λ (l : ℕ). l ≤ 65535) (masksFrom ws from (mid - from)) (masksFrom ws mid (end - mid)) (subst AllSets in-two (m .sets)) }
+
+  pub masks-rest : MasksAt ws from end → MasksAt ws mid end
+  masks-rest m = record { ordered = g; within = m .within; sets = each-rest (λ (l : ℕ). l ≤ 65535) (masksFrom ws from (mid - from)) (masksFrom ws mid (end - mid)) (subst AllSets in-two (m .sets)) }
+
+  pub gathered-both : (group : ℕ) (table middle left : List ℕ) → Gathered ws from mid group table middle → Gathered ws mid end group middle left → Gathered ws from end group table left
+  gathered-both group table middle left f s =
+      record {
+        room = s .room;
+        told = λ x l.
+            s .told x l
+            ∙ ap (λ (t : Bool). t || any (maskReaches 0 group x) (masksFrom ws mid (end - mid))) (f .told x l)
+            ∙ or-assoc (tells table x) (any (maskReaches 0 group x) (masksFrom ws from (mid - from))) (any (maskReaches 0 group x) (masksFrom ws mid (end - mid)))
+            ∙ ap (λ (t : Bool). tells table x || t)
+            (sym (ap (any (maskReaches 0 group x)) in-two ∙ any-append (maskReaches 0 group x) (masksFrom ws from (mid - from)) (masksFrom ws mid (end - mid))));
+      }
+
+-- the masks before index i are in the table
+pub record Gathering (ws : List ℕ) (from end group : ℕ) (table left : List ℕ) (i : ℕ) : Type 0 where
+  pub more : MasksAt ws i end
+  pub room : length left ≡ 16
+  pub same : (x : ℕ) → x < 1024
+      → (tells left x || any (maskReaches 0 group x) (masksFrom ws i (end - i))) ≡ (tells table x || any (maskReaches 0 group x) (masksFrom ws from (end - from)))
+
+pub gathered-none : (ws : List ℕ) (from end group : ℕ) (table : List ℕ) → length table ≡ 16 → MasksAt ws from end → Gathering ws from end group table table from
+gathered-none ws from end group table room m = record { more = m; room = room; same = λ x h. refl }
+
+module _ {ws : List ℕ} {from end group : ℕ} {table left : List ℕ} {i : ℕ} (g : Gathering ws from end group table left i) where
   -- a record is left
-  module _ (more : i < end) where
+  module _ (some : i < end) where
     first-mask : masksFrom ws i (end - i) ≡ lineAt ws i ∷ masksFrom ws (i + 1) (end - (i + 1))
     unfolding masksFrom
     first-mask = ap (masksFrom ws i) one-more
@@ -190,37 +238,82 @@ module _ {ws : List ℕ} {from end group : ℕ} {table : List ℕ} {i : ℕ} (g 
         one-more = omega arith
 
     pub mask-within : i < length ws / 4
-    mask-within = omega (arith, g .left .within)
+    mask-within = omega (arith, g .more .within)
 
     pub mask-set : lineAt ws i ≤ 65535
-    mask-set = subst AllSets first-mask (g .left .sets) .0
+    mask-set = subst AllSets first-mask (g .more .sets) .0
 
-    pub gathered-more : (next : List ℕ) → Added (lineAt ws i) group table next → Gathered ws from end group next (i + 1)
+    pub gathered-more : (next : List ℕ) → Added (lineAt ws i) group left next → Gathering ws from end group table next (i + 1)
     gathered-more next a =
         record {
-          left = record { ordered = omega arith; within = g .left .within; sets = subst AllSets first-mask (g .left .sets) .1 };
+          more = record { ordered = omega arith; within = g .more .within; sets = subst AllSets first-mask (g .more .sets) .1 };
           room = a .room;
           same = λ x h.
               ap (λ (t : Bool). t || any (maskReaches 0 group x) (masksFrom ws (i + 1) (end - (i + 1)))) (a .told x h)
-              ∙ or-assoc (tells table x) (maskReaches 0 group x (lineAt ws i)) (any (maskReaches 0 group x) (masksFrom ws (i + 1) (end - (i + 1))))
-              ∙ ap (λ (ms : List ℕ). tells table x || any (maskReaches 0 group x) ms) (sym first-mask)
+              ∙ or-assoc (tells left x) (maskReaches 0 group x (lineAt ws i)) (any (maskReaches 0 group x) (masksFrom ws (i + 1) (end - (i + 1))))
+              ∙ ap (λ (ms : List ℕ). tells left x || any (maskReaches 0 group x) ms) (sym first-mask)
               ∙ g .same x h;
         }
 
   -- none is left
-  pub gathered-all : end ≤ i → Reached 0 (masksFrom ws from (end - from)) group table
+  pub gathered-all : end ≤ i → Gathered ws from end group table left
   unfolding masksFrom
   gathered-all l =
       record {
         room = g .room;
         told = λ x h.
-            sym (or-false (tells table x))
-            ∙ ap (λ (n : ℕ). tells table x || any (maskReaches 0 group x) (masksFrom ws i n)) (sym no-more)
+            sym (or-false (tells left x))
+            ∙ ap (λ (n : ℕ). tells left x || any (maskReaches 0 group x) (masksFrom ws i n)) (sym no-more)
             ∙ g .same x h;
       }
     where
       no-more : end - i ≡ 0
       no-more = omega arith
+
+-- by the place of the mask's word, as the code has it
+pub mask-small : (ws : List ℕ) (from end : ℕ) → MasksAt ws from end → (place : ℕ) → place % 4 ≡ 1 → from ≤ place / 4 → place / 4 < end → getD ws place 0 ≤ 65535
+unfolding masksFrom
+mask-small ws from end m place e l h = subst (λ (x : ℕ). getD ws x 0 ≤ 65535) (back place e) (mask-set (gathered-none ws (place / 4) end 0 (replicate 16 0) refl (masks-rest ws from (place / 4) end l (omega arith) m)) h)
+  where
+    back : (x : ℕ) → x % 4 ≡ 1 → x / 4 * 4 + 1 ≡ x
+    back x r = omega arith
+
+pub gathered-at : (ws : List ℕ) (from end group : ℕ) (table left : List ℕ) (i : ℕ) → Gathering ws from end group table left i → i < end
+    → (place : ℕ) → i * 4 + 1 ≡ place → (next : List ℕ) → Added (getD ws place 0) group left next → (j : ℕ) → i + 1 ≡ j → Gathering ws from end group table next j
+gathered-at ws from end group table left i g h place e next a j k =
+    subst (Gathering ws from end group table next) k (gathered-more g h next (subst (λ (x : ℕ). Added (getD ws x 0) group left next) (sym e) a))
+
+-- block and bit of a set of the group
+block-of : (n m : ℕ) → m < 64 → n ≡ (64 * n + m) / 64
+block-of n m l = omega arith
+
+bit-of : (n m : ℕ) → m < 64 → m ≡ (64 * n + m) % 64
+bit-of n m l = omega arith
+
+-- from an empty table
+no-bits : (x : ℕ) → tells (replicate 16 0) x ≡ false
+unfolding tells
+no-bits x = ap (λ (w : ℕ). present w (x % 64)) (zeros 16 (x / 64)) ∙ present-none (x % 64)
+  where
+    zeros : (n i : ℕ) → _≡_ {A = ℕ} (getD (replicate n 0) i 0) 0
+    zeros zero i = refl
+    zeros (suc n) zero = refl
+    zeros (suc n) (suc i) = zeros n i
+
+pub reached-none : (ws : List ℕ) (from end group : ℕ) (table : List ℕ) → Gathered ws from end group (replicate 16 0) table
+    → Reached 0 (masksFrom ws from (end - from)) group table
+reached-none ws from end group table g =
+    record { room = g .room; told = λ x h. g .told x h ∙ ap (λ (t : Bool). t || any (maskReaches 0 group x) (masksFrom ws from (end - from))) (no-bits x) }
+
+-- no record at all
+pub none-inside : (ws : List ℕ) (from end group : ℕ) → end ≤ from → GroupOf (someLine (masksFrom ws from (end - from))) group (replicate 16 0)
+unfolding someLine tells masksFrom
+none-inside ws from end group h k b j l =
+    ap₂ (λ (n m : ℕ). present (getD (replicate 16 0) n 0) m) (block-of k j l) (bit-of k j l) ∙ no-bits (64 * k + j)
+    ∙ sym (ap (λ (n : ℕ). any (λ m. inside m (64 * (16 * group + k) + j)) (masksFrom ws from n)) no-more)
+  where
+    no-more : end - from ≡ 0
+    no-more = omega arith
 
 -- all ten signals
 pub reached-all : (masks : List ℕ) (group : ℕ) (table : List ℕ) → group ≤ 63 → AllSets masks → Reached 10 masks group table → GroupOf (someLine masks) group table
@@ -230,12 +323,6 @@ reached-all masks group table within sets r k b j h =
     ∙ r .told (64 * k + j) (omega arith)
     ∙ go masks sets
   where
-    block-of : (n m : ℕ) → m < 64 → n ≡ (64 * n + m) / 64
-    block-of n m l = omega arith
-
-    bit-of : (n m : ℕ) → m < 64 → m ≡ (64 * n + m) % 64
-    bit-of n m l = omega arith
-
     place : (g n m : ℕ) → 1024 * g + (64 * n + m) ≡ 64 * (16 * g + n) + m
     place g n m = omega arith
 

@@ -1,50 +1,46 @@
--- A policy's word and a join's, bit by bit.
-use Prim.Native.Nat.{ℕ, _+_, _-_, _*_, _^_, _<_}
-use mathlib.Core.Bool.{Bool, true, false, not, cond, _&&_, _||_, and-true, or-false}
+-- Words bit by bit: a policy's, a join's, and an overlap that is the same in every block.
+use Prim.Native.Nat.{ℕ, _+_, _-_, _*_, _/_, _%_, _^_, _≤_, _<_}
+use mathlib.Core.Bool.{Bool, true, false, not, cond, _&&_, _||_, Bool·beq, and-false}
 use mathlib.Core.List.{List}
-use mathlib.Core.Path.{_≡_, refl, ap, ap₂, _∙_}
+use mathlib.Core.Path.{_≡_, refl, sym, ap, ap₂, _∙_}
+use native.Mathlib.Nat.{add-zero}
 use native.Mathlib.Omega.{arith}
-use lib.Bits.{bitAnd, bitOr}
+use lib.Bits.{bitAnd, bitOr, bitXor, and-block, and-zero-l, and-zero-r}
+use lib.Bits as bits
+use lib.Dec.{eqb}
 use lib.ListN.{getD}
+use borrow.Author.Tests.{ne-eqb}
 use Rattle.arith.specs.Tables.{Written}
+use Rattle.arith.proofs.Digits.{digits}
 use Rattle.signals.specs.Sets.{present, overlap}
-use Rattle.signals.proofs.BitLaws.{present-and, present-or, present-not}
+use Rattle.signals.proofs.BitLaws.{present-and, present-or, present-xor, present-not}
 use Rattle.blocks.specs.Blocks.{WordOf, BlockOf}
+use Rattle.blocks.proofs.BlockLaws.{shares}
 use Rattle.layout.specs.Records.{Join}
 use Rattle.layout.specs.Nodes.{ListedPolicy}
 use Rattle.rod.specs.Reading.{someLine, policyValue, joined}
 use Rattle.rod.specs.Values.{joinMeaning}
-use Rattle.groups.specs.Values.{valueWord, JoinedWord}
+use Rattle.groups.specs.Groups.{GroupOf}
+use Rattle.groups.specs.Values.{valueWord, policyBit, EvenOverlap, BlockWord, PolicyWord, JoinedWord}
 
--- quiet where the mask does not overlap
-module _ (overlap value : ℕ) (quiet : Bool) where
-  pub quiet-yes : overlap < 2 ^ 64 → quiet ≡ true → WordOf (λ j. cond (present overlap j) (present value j) quiet) (bitOr value (2 ^ 64 - 1 - overlap))
-  quiet-yes small q j h =
-      present-or value (2 ^ 64 - 1 - overlap) j ∙ ap (λ (t : Bool). present value j || t) (present-not 64 overlap j small h)
-      ∙ rw q (go (present overlap j) (present value j))
-    where
-      go : (o v : Bool) → (v || not o) ≡ cond o v true
-      go true v = or-false v
-      go false true = refl
-      go false false = refl
-
-  pub quiet-no : quiet ≡ false → WordOf (λ j. cond (present overlap j) (present value j) quiet) (bitAnd value overlap)
-  quiet-no q j h = present-and value overlap j ∙ rw q (go (present overlap j) (present value j))
-    where
-      go : (o v : Bool) → (v && o) ≡ cond o v false
-      go true v = and-true v
-      go false true = refl
-      go false false = refl
-
--- turned over, or not
-module _ (overlap found : ℕ) (quiet turned : Bool) (r : ℕ) where
-  pub word-turned : found < 2 ^ 64 → turned ≡ true → WordOf (λ j. cond (present overlap j) (present (2 ^ 64 - 1 - found) j) quiet) r
-      → WordOf (λ j. cond (present overlap j) (cond turned (not (present found j)) (present found j)) quiet) r
-  word-turned small t w j h = w j h ∙ rw t (ap (λ (v : Bool). cond (present overlap j) v quiet) (present-not 64 found j small h))
-
-  pub word-plain : turned ≡ false → WordOf (λ j. cond (present overlap j) (present found j) quiet) r
-      → WordOf (λ j. cond (present overlap j) (cond turned (not (present found j)) (present found j)) quiet) r
-  word-plain t w j h = w j h ∙ rw t refl
+-- a policy's word, by the code's `^`, `&`, `|` and `!`
+pub policy-bits : (over found turn still : ℕ) → over < 2 ^ 64
+    → WordOf (policyBit over found turn still) (bitOr (bitAnd (bitXor found turn) over) (bitAnd still (2 ^ 64 - 1 - over)))
+policy-bits over found turn still small j h =
+    present-or (bitAnd (bitXor found turn) over) (bitAnd still (2 ^ 64 - 1 - over)) j
+    ∙ ap₂ (λ (s t : Bool). s || t)
+    (present-and (bitXor found turn) over j ∙ ap (λ (t : Bool). t && present over j) (present-xor found turn j))
+    (present-and still (2 ^ 64 - 1 - over) j ∙ ap (λ (t : Bool). present still j && t) (present-not 64 over j small h))
+    ∙ go (present over j) (not (Bool·beq (present found j) (present turn j))) (present still j)
+  where
+    go : (o v s : Bool) → ((v && o) || (s && not o)) ≡ cond o v s
+    go true true s = refl
+    go true false true = refl
+    go true false false = refl
+    go false true true = refl
+    go false true false = refl
+    go false false true = refl
+    go false false false = refl
 
 -- two words joined
 module _ (a b : ℕ) (o : Bool) where
@@ -62,8 +58,72 @@ pub joined-here : (o : Join) (values : List ℕ) (height n : ℕ) (left : List �
 joined-here o values height n left w word t j h =
     t j h ∙ ap₂ (λ (x y : ℕ). joined o (present x j) (present y j)) (w .others (height * 16 + n) (λ k l e. omega arith)) (w .others (height * 16 + 16 + n) (λ k l e. omega arith))
 
--- from where its mask overlaps and where some of its lines lies inside, what a policy says of a block
-pub policy-told : (p : ListedPolicy) (block over found word : ℕ) → BlockOf (overlap (p .mask)) block over → BlockOf (someLine (p .lines)) block found
-    → WordOf (λ j. cond (present over j) (cond (p .turned) (not (present found j)) (present found j)) (p .quiet)) word → BlockOf (λ set. policyValue set p) block word
-unfolding policyValue
-policy-told p block over found word o f w j h = w j h ∙ rw (o j h, f j h) refl
+-- by the word of an overlap
+pub block-told : (mask group : ℕ) (found : List ℕ) (turn still k over word : ℕ) → BlockOf (overlap mask) (16 * group + k) over
+    → WordOf (policyBit over (getD found k 0) turn still) word → BlockWord mask group found turn still k word
+block-told mask group found turn still k over word o w j h =
+    w j h ∙ ap (λ (s : Bool). cond s (not (Bool·beq (present (getD found k 0) j) (present turn j))) (present still j)) (o j h)
+
+-- ---- what a policy says
+
+-- turned over by all sets, or by none
+turned-bit : (f t : Bool) → not (Bool·beq f t) ≡ cond t (not f) f
+turned-bit true true = refl
+turned-bit true false = refl
+turned-bit false true = refl
+turned-bit false false = refl
+
+-- from where some of its lines lies inside, and all sets or none for its flags
+module _ (p : ListedPolicy) (group : ℕ) (found : List ℕ) (turn still : ℕ) (f : GroupOf (someLine (p .lines)) group found)
+    (t : WordOf (λ j. p .turned) turn) (q : WordOf (λ j. p .quiet) still) where
+  pub blocks-told : (k : ℕ) → k < 16 → (word : ℕ) → BlockWord (p .mask) group found turn still k word → PolicyWord p group k word
+  unfolding policyValue
+  blocks-told k b word w j h =
+      w j h ∙ rw (f k b j h, t j h, q j h)
+      (ap (λ (v : Bool). cond (overlap (p .mask) (64 * (16 * group + k) + j)) v (p .quiet)) (turned-bit (someLine (p .lines) (64 * (16 * group + k) + j)) (p .turned)))
+
+  -- by one word of its overlap
+  pub even-told : (over : ℕ) → BlockOf (overlap (p .mask)) (16 * group) over → EvenOverlap (p .mask) group
+      → (k : ℕ) → k < 16 → (word : ℕ) → WordOf (policyBit over (getD found k 0) turn still) word → PolicyWord p group k word
+  even-told over o e k b word w =
+      blocks-told k b word
+      (λ j h. w j h ∙ ap (λ (s : Bool). cond s (not (Bool·beq (present (getD found k 0) j) (present turn j))) (present still j)) (o j h ∙ sym (e k b j h)))
+
+-- ---- an overlap that is the same in every block
+
+module _ (mask group : ℕ) (small : mask ≤ 65535) (within : group ≤ 63) where
+  -- by the six lowest signals, those of the blocks and those of the groups
+  by-parts : (k : ℕ) → k < 16 → (j : ℕ) → j < 64
+      → overlap mask (64 * (16 * group + k) + j) ≡ not (eqb (bitAnd (mask % 64) j) 0 && (eqb (bitAnd (mask / 64 % 16) k) 0 && eqb (bitAnd (mask / 1024) group) 0))
+  by-parts k b j h =
+      shares mask (16 * group + k) j small (omega arith) h
+      ∙ ap (λ (t : Bool). not (eqb (bitAnd (mask % 64) j) 0 && t))
+      (ap (λ (x : ℕ). eqb x 0) (ap₂ bitAnd (split mask) (turn group k) ∙ and-block 4 (mask / 1024) group (mask / 64 % 16) k (omega arith) b)
+      ∙ digits 4 (bitAnd (mask / 1024) group) 0 (bitAnd (mask / 64 % 16) k) 0 (omega (arith, bits.and-le-r (mask / 64 % 16) k)) (omega arith))
+    where
+      split : (m : ℕ) → m / 64 ≡ m / 1024 * 16 + m / 64 % 16
+      split m = omega arith
+
+      turn : (g i : ℕ) → 16 * g + i ≡ g * 16 + i
+      turn g i = omega arith
+
+  first-block : (j : ℕ) → j < 64 → overlap mask (64 * (16 * group) + j) ≡ not (eqb (bitAnd (mask % 64) j) 0 && eqb (bitAnd (mask / 1024) group) 0)
+  first-block j h =
+      ap (λ (x : ℕ). overlap mask (64 * x + j)) (sym (add-zero (16 * group))) ∙ by-parts 0 (omega arith) j h
+      ∙ ap (λ (x : ℕ). not (eqb (bitAnd (mask % 64) j) 0 && (eqb x 0 && eqb (bitAnd (mask / 1024) group) 0))) (and-zero-r (mask / 64 % 16))
+
+  pub even-low : mask / 64 % 16 ≡ 0 → EvenOverlap mask group
+  even-low e k b j h =
+      by-parts k b j h
+      ∙ ap (λ (x : ℕ). not (eqb (bitAnd (mask % 64) j) 0 && (eqb x 0 && eqb (bitAnd (mask / 1024) group) 0))) (ap (λ (x : ℕ). bitAnd x k) e ∙ and-zero-l k)
+      ∙ sym (first-block j h)
+
+  pub even-high : (bitAnd (mask / 1024) group ≡ 0 → ⊥) → EvenOverlap mask group
+  even-high n k b j h =
+      by-parts k b j h
+      ∙ ap (λ (t : Bool). not (eqb (bitAnd (mask % 64) j) 0 && (eqb (bitAnd (mask / 64 % 16) k) 0 && t))) other
+      ∙ ap (λ (t : Bool). not (eqb (bitAnd (mask % 64) j) 0 && t)) (and-false (eqb (bitAnd (mask / 64 % 16) k) 0))
+      ∙ sym (first-block j h ∙ ap (λ (t : Bool). not (eqb (bitAnd (mask % 64) j) 0 && t)) other)
+    where
+      other : eqb (bitAnd (mask / 1024) group) 0 ≡ false
+      other = ne-eqb (bitAnd (mask / 1024) group) 0 n

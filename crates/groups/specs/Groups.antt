@@ -8,6 +8,10 @@ use lib.ListN.{length, getD}
 use Rattle.arith.specs.Lists.{any}
 use Rattle.signals.specs.Sets.{present, inside}
 use Rattle.blocks.specs.Blocks.{BlockOf, without}
+use Rattle.answers.specs.Answers.{result}
+use Rattle.layout.specs.Records.{records}
+use Rattle.layout.specs.Judgement.{verdict}
+use Rattle.layout.specs.Nodes.{excluded}
 use Rattle.rod.specs.Values.{lineAt, AllSets}
 
 -- the words of a table tell the test of the 16 blocks of a group, from 16 * group on
@@ -24,6 +28,14 @@ pub record MasksAt (ws : List ℕ) (from end : ℕ) : Type 0 where
   pub ordered : from ≤ end
   pub within : end ≤ length ws / 4
   pub sets : AllSets (masksFrom ws from (end - from))
+
+-- how many excluded pairs a listing begins with
+abbrev pub pairCount : List ℕ → ℕ
+pairCount ws = length (excluded (records ws))
+
+-- the words are a sound listing that begins with so many pairs
+abbrev pub SoundWith : List ℕ → ℕ → Type 0
+SoundWith ws pairs = (verdict ws ≡ result tt) × (pairs ≡ pairCount ws)
 
 -- ---- masks in a table, spread from signal to signal
 
@@ -45,10 +57,15 @@ pub record Reached (n : ℕ) (masks : List ℕ) (group : ℕ) (table : List ℕ)
   pub room : length table ≡ 16
   pub told : (x : ℕ) → x < 1024 → tells table x ≡ any (maskReaches n group x) masks
 
--- the mask is added to a table, at its own set
+-- a mask is added to a table, at its own set
 pub record Added (mask group : ℕ) (table left : List ℕ) : Type 0 where
   pub room : length left ≡ 16
   pub told : (x : ℕ) → x < 1024 → tells left x ≡ (tells table x || maskReaches 0 group x mask)
+
+-- the masks of the records from one index up to another are added to a table, each at its own set
+pub record Gathered (ws : List ℕ) (from end group : ℕ) (table left : List ℕ) : Type 0 where
+  pub room : length left ≡ 16
+  pub told : (x : ℕ) → x < 1024 → tells left x ≡ (tells table x || any (maskReaches 0 group x) (masksFrom ws from (end - from)))
 
 -- each set of a table that has the signal gets what is told of the set without it
 pub record Spread (signal : ℕ) (table left : List ℕ) : Type 0 where

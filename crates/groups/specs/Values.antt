@@ -1,12 +1,12 @@
 -- The values as the code keeps them, sixteen tables at most, and where it stands in a sound listing.
 use Prim.Native.Nat.{ℕ, zero, suc, _+_, _*_, _/_, _≤_, _<_}
-use mathlib.Core.Bool.{Bool}
+use mathlib.Core.Bool.{Bool, not, cond, Bool·beq}
 use mathlib.Core.List.{List, [], _∷_, map}
 use mathlib.Core.Path.{_≡_}
 use lib.ListN.{length, getD}
 use Rattle.arith.specs.Tables.{Written}
 use Rattle.arith.specs.Trees.{run}
-use Rattle.signals.specs.Sets.{present}
+use Rattle.signals.specs.Sets.{present, overlap}
 use Rattle.blocks.specs.Blocks.{WordOf, BlockOf}
 use Rattle.layout.specs.Records.{Join}
 use Rattle.layout.specs.Nodes.{ListedPolicy, leadingLines, nodes}
@@ -25,6 +25,28 @@ PolicyWord p group k word = BlockOf (λ set. policyValue set p) (16 * group + k)
 -- the policy's value is put at this height
 abbrev pub PolicyPut : ListedPolicy → ℕ → ℕ → List ℕ → List ℕ → Type 0
 PolicyPut p group height values left = Written (valueWord height) (PolicyWord p group) 16 values left
+
+-- what a policy says of set j of a block, by the words of its overlap and of its lines; the last two are all sets or none
+abbrev pub policyBit : ℕ → ℕ → ℕ → ℕ → ℕ → Bool
+policyBit over found turn still j = cond (present over j) (not (Bool·beq (present found j) (present turn j))) (present still j)
+
+-- the mask shares a signal with a set of any block of the group where it does with that of the first block
+abbrev pub EvenOverlap : ℕ → ℕ → Type 0
+EvenOverlap mask group = (k : ℕ) → k < 16 → (j : ℕ) → j < 64 → overlap mask (64 * (16 * group + k) + j) ≡ overlap mask (64 * (16 * group) + j)
+
+-- a policy's value is put at this height, from one word of its overlap for all blocks
+abbrev pub EvenPut : ℕ → List ℕ → ℕ → ℕ → ℕ → List ℕ → List ℕ → Type 0
+EvenPut over found turn still height values left =
+    Written (valueWord height) (λ k word. WordOf (policyBit over (getD found k 0) turn still) word) 16 values left
+
+-- word k tells what a policy with this mask says of block k of the group
+abbrev pub BlockWord : ℕ → ℕ → List ℕ → ℕ → ℕ → ℕ → ℕ → Type 0
+BlockWord mask group found turn still k word =
+    WordOf (λ j. cond (overlap mask (64 * (16 * group + k) + j)) (not (Bool·beq (present (getD found k 0) j) (present turn j))) (present still j)) word
+
+-- such a policy's value is put at this height
+abbrev pub BlocksPut : ℕ → ℕ → List ℕ → ℕ → ℕ → ℕ → List ℕ → List ℕ → Type 0
+BlocksPut mask group found turn still height values left = Written (valueWord height) (BlockWord mask group found turn still) 16 values left
 
 -- word k joins those of the value at this height and of the next
 abbrev pub JoinedWord : Join → ℕ → List ℕ → ℕ → ℕ → Type 0

@@ -1,47 +1,86 @@
 // What a sound listing says of 1,024 sets at once. A group is 16 blocks, the sets from 1024 * group on, and a table has a word
 // for each block. The functions are for the crates above, and allocate nothing.
-ghost use mathlib.Core.Bool.{Bool, not, cond};
+ghost use mathlib.Core.Bool.{true};
 ghost use mathlib.Core.List.{List};
 ghost use mathlib.Core.Path.{_≡_};
-ghost use Prim.Native.Nat.{ℕ, _+_, _-_, _*_, _/_, _%_, _^_, _≤_, _<_};
-ghost use lib.ListN.{length, getD};
-ghost use Rattle.answers.specs.Answers.{result};
-ghost use Rattle.signals.specs.Sets.{present, inside};
+ghost use Prim.Native.Nat.{ℕ, _-_, _/_, _%_, _≤_, _<_};
+ghost use lib.ListN.{length};
+ghost use Rattle.signals.specs.Sets.{present, inside, overlap};
 ghost use Rattle.blocks.specs.Blocks.{WordOf};
-ghost use Rattle.layout.specs.Judgement.{verdict};
 ghost use Rattle.rod.specs.Reading.{someLine, joined, says};
 ghost use Rattle.rod.specs.Values.{joinMeaning, policyAt, nodeEnd};
-ghost use Rattle.groups.specs.Groups.{GroupOf, masksFrom, MasksAt, Reached, Added, Spread};
-ghost use Rattle.groups.specs.Values.{PolicyPut, JoinPut, PolicyHere, GroupUnderway};
+ghost use Rattle.groups.specs.Groups.{GroupOf, masksFrom, MasksAt, pairCount, SoundWith, Reached, Added, Gathered, Spread};
+ghost use Rattle.groups.specs.Values.{policyBit, EvenOverlap, EvenPut, BlocksPut, PolicyPut, JoinPut, PolicyHere, GroupUnderway};
 
-// The mask's six highest signals are all the group's.
-fn is_within(mask: u32, group: u32) -> bool
-    requires { ⌜ mask ≤ 65535 ⌝ }
-    ensures { λ r. ⌜ r ≡ inside (mask / 1024) group ⌝ }
+// How many excluded pairs the listing begins with.
+pub fn pair_count(words: &[u32]) -> usize
+    ensures { λ r. ⌜ r ≡ pairCount (now (words .entry)) ⌝ }
 {
-    let high = mask / 1024;
-    high & group == high
+    let mut i = 0;
+    while i < words.len() / 4 {
+        if words[i * 4] != layout::EXCLUSION {
+            return i;
+        }
+        i += 1;
+    }
+    i
 }
 
-// The bit of the mask in the word of its own block, if that is one of the group's.
-fn own_bit(mask: u32, group: u32) -> u64
-    requires { ⌜ mask ≤ 65535 ⌝ }
-    ensures { λ r. ⌜ r ≡ cond (inside (mask / 1024) group) (2 ^ (mask % 64)) 0 ⌝ }
+// The mask has none of the six highest signals that the group lacks.
+fn is_within(mask: u32, group: u32) -> bool
+    requires { ⌜ (mask ≤ 65535) × (group ≤ 63) ⌝ }
+    ensures { λ r. ⌜ r ≡ inside (mask / 1024) group ⌝ }
+{
+    mask & (63 - group) * 1024 == 0
+}
+
+// The mask's own set is put into the table, if it is one of the group's.
+fn add_mask(table: &mut [u64; 16], mask: u32, group: u32)
+    requires { ⌜ (length (now table) ≡ 16) × (mask ≤ 65535) × (group ≤ 63) ⌝ }
+    ensures { λ _. ⌜ Added mask group (now (table .entry)) (now (table .exit)) ⌝ }
 {
     if is_within(mask, group) {
-        1 << (mask % 64)
-    } else {
-        0
+        let bit: u64 = 1 << (mask % 64);
+        let k = (mask / 64 % 16) as usize;
+        table[k] = table[k] | bit;
     }
 }
 
-// The mask's own set, of those in the group, is put into the table.
-fn add_mask(table: &mut [u64; 16], mask: u32, group: u32)
-    requires { ⌜ (length (now table) ≡ 16) × (mask ≤ 65535) ⌝ }
-    ensures { λ _. ⌜ Added mask group (now (table .entry)) (now (table .exit)) ⌝ }
+// The masks of the records from index `from` up to `end` are put into the table, four at a turn (docs/DECISIONS.md, D37).
+fn gather_fours(words: &[u32], from: usize, end: usize, group: u32, table: &mut [u64; 16])
+    requires { ⌜ (length (now table) ≡ 16) × (group ≤ 63) × MasksAt (now words) from end × ((end - from) % 4 ≡ 0) ⌝ }
+    ensures { λ _. ⌜ Gathered (now (words .entry)) from end group (now (table .entry)) (now (table .exit)) ⌝ }
 {
-    let k = (mask / 64 % 16) as usize;
-    table[k] = table[k] | own_bit(mask, group);
+    let mut at = from * 4;
+    while at < end * 4 {
+        add_mask(table, words[at + 1], group);
+        add_mask(table, words[at + 5], group);
+        add_mask(table, words[at + 9], group);
+        add_mask(table, words[at + 13], group);
+        at += 16;
+    }
+}
+
+// The same, one at a turn.
+fn gather_rest(words: &[u32], from: usize, end: usize, group: u32, table: &mut [u64; 16])
+    requires { ⌜ (length (now table) ≡ 16) × (group ≤ 63) × MasksAt (now words) from end ⌝ }
+    ensures { λ _. ⌜ Gathered (now (words .entry)) from end group (now (table .entry)) (now (table .exit)) ⌝ }
+{
+    let mut i = from;
+    while i < end {
+        add_mask(table, words[i * 4 + 1], group);
+        i += 1;
+    }
+}
+
+// The masks of the records from index `from` up to `end` are put into the table.
+pub fn gather(words: &[u32], from: usize, end: usize, group: u32, table: &mut [u64; 16])
+    requires { ⌜ (length (now table) ≡ 16) × (group ≤ 63) × MasksAt (now words) from end ⌝ }
+    ensures { λ _. ⌜ Gathered (now (words .entry)) from end group (now (table .entry)) (now (table .exit)) ⌝ }
+{
+    let last = end - (end - from) % 4;
+    gather_fours(words, from, last, group, table);
+    gather_rest(words, last, end, group, table);
 }
 
 // One of the six lowest signals is spread: within each word.
@@ -70,7 +109,7 @@ fn spread_high(table: &mut [u64; 16], signal: u32)
 }
 
 // Each set gets what is told of the sets inside it.
-fn spread(table: &mut [u64; 16])
+pub fn spread(table: &mut [u64; 16])
     requires { ⌜ length (now table) ≡ 16 ⌝ }
     ensures { λ _. ⌜ ((masks : List ℕ) (group : ℕ) → Reached 0 masks group (now (table .entry)) → Reached 10 masks group (now (table .exit))) ⌝ }
 {
@@ -86,40 +125,74 @@ fn spread(table: &mut [u64; 16])
     spread_high(table, 9);
 }
 
-// The sets of the group inside which some mask lies wholly, of the records from index `from` up to `end`.
-pub fn some_inside(words: &[u32], from: usize, end: usize, group: u32) -> [u64; 16]
+// The sets of the group inside which some line lies wholly, of the records from index `from` up to `end`.
+fn lines_inside(words: &[u32], from: usize, end: usize, group: u32) -> [u64; 16]
     requires { ⌜ (group ≤ 63) × MasksAt (now words) from end ⌝ }
     ensures { λ r. ⌜ GroupOf (someLine (masksFrom (now (words .entry)) from (end - from))) group r ⌝ }
 {
     let mut table = [0u64; 16];
-    let mut i = from;
-    while i < end {
-        add_mask(&mut table, words[i * 4 + 1], group);
-        i += 1;
+    if from >= end {
+        return table;
     }
+    gather(words, from, end, group, &mut table);
     spread(&mut table);
     table
 }
 
-// A value where the mask overlaps, and quiet elsewhere.
-fn or_quiet(overlap: u64, value: u64, quiet: bool) -> u64
-    ensures { λ r. ⌜ WordOf (λ j. cond (present overlap j) (present value j) quiet) r ⌝ }
+// What a policy says, from where its mask overlaps and where some line lies inside. `turn` is every set where it is turned,
+// `still` where it is quiet.
+fn policy_word(overlap: u64, found: u64, turn: u64, still: u64) -> u64
+    ensures { λ r. ⌜ WordOf (policyBit overlap found turn still) r ⌝ }
 {
-    if quiet {
-        value | !overlap
-    } else {
-        value & overlap
+    (found ^ turn) & overlap | still & !overlap
+}
+
+// The mask overlaps every block of the group alike.
+fn is_even(mask: u32, group: u32) -> bool
+    requires { ⌜ (mask ≤ 65535) × (group ≤ 63) ⌝ }
+    ensures { λ r. ⌜ (r ≡ true → EvenOverlap mask group) ⌝ }
+{
+    mask / 64 % 16 == 0 || mask / 1024 & group != 0
+}
+
+// The policy's words, if its mask overlaps every block alike.
+fn put_even(
+    values: &mut [u64; 256],
+    height: usize,
+    found: [u64; 16],
+    overlap: u64,
+    turn: u64,
+    still: u64,
+)
+    requires { ⌜ (length (now values) ≡ 256) × (height < 16) ⌝ }
+    ensures { λ _. ⌜ EvenPut overlap found turn still height (now (values .entry)) (now (values .exit)) ⌝ }
+{
+    let mut k: usize = 0;
+    while k < 16 {
+        values[height * 16 + k] = policy_word(overlap, found[k], turn, still);
+        k += 1;
     }
 }
 
-// What a policy says, from where its mask overlaps and where some line lies inside.
-fn policy_word(overlap: u64, found: u64, quiet: bool, turned: bool) -> u64
-    ensures { λ r. ⌜ WordOf (λ j. cond (present overlap j) (cond turned (not (present found j)) (present found j)) quiet) r ⌝ }
+// The policy's words, from where its mask shares one of the six lowest signals.
+fn put_blocks(
+    values: &mut [u64; 256],
+    height: usize,
+    found: [u64; 16],
+    mask: u32,
+    low: u64,
+    group: u32,
+    turn: u64,
+    still: u64,
+)
+    requires { ⌜ (length (now values) ≡ 256) × (height < 16) × (mask ≤ 65535) × (group ≤ 63) × WordOf (overlap (mask % 64)) low ⌝ }
+    ensures { λ _. ⌜ BlocksPut mask group found turn still height (now (values .entry)) (now (values .exit)) ⌝ }
 {
-    if turned {
-        or_quiet(overlap, !found, quiet)
-    } else {
-        or_quiet(overlap, found, quiet)
+    let mut k: usize = 0;
+    while k < 16 {
+        let overlap = blocks::block_overlap(mask, low, 16 * group + k as u32);
+        values[height * 16 + k] = policy_word(overlap, found[k], turn, still);
+        k += 1;
     }
 }
 
@@ -138,14 +211,16 @@ fn put_policy(
     ensures { λ _. ⌜ PolicyPut (policyAt (now (words .entry)) at quiet turned) group height (now (values .entry)) (now (values .exit)) ⌝ }
 {
     let mask = words[at * 4 + 1];
-    let found = some_inside(words, at + 1, end, group);
+    let found = lines_inside(words, at + 1, end, group);
     let low = blocks::low_overlap(mask % 64);
-    let mut k: usize = 0;
-    while k < 16 {
-        let overlap = blocks::block_overlap(mask, low, 16 * group + k as u32);
-        values[height * 16 + k] = policy_word(overlap, found[k], quiet, turned);
-        k += 1;
+    let turn = blocks::all_if(turned);
+    let still = blocks::all_if(quiet);
+    let overlap = blocks::block_overlap(mask, low, 16 * group);
+    put_even(values, height, found, overlap, turn, still);
+    if is_even(mask, group) {
+        return;
     }
+    put_blocks(values, height, found, mask, low, group, turn, still);
 }
 
 // Two values joined, of each set of a block.
@@ -201,31 +276,16 @@ fn after_node(
     }
 }
 
-// The table at the bottom of the values.
-fn bottom(values: &[u64; 256]) -> [u64; 16]
-    requires { ⌜ length (now values) ≡ 256 ⌝ }
-    ensures { λ r. ⌜ ((test : ℕ → Bool) (group : ℕ) → GroupOf test group (now (values .entry)) → GroupOf test group r) ⌝ }
-{
-    let mut table = [0u64; 16];
-    let mut k: usize = 0;
-    while k < 16 {
-        table[k] = values[k];
-        k += 1;
-    }
-    table
-}
-
-// What a sound listing says of each set of the group. The values are room to work in: it leaves them changed.
-pub fn reading(words: &[u32], group: u32, values: &mut [u64; 256]) -> [u64; 16]
-    requires { ⌜ (verdict (now words) ≡ result tt) × (group ≤ 63) × (length (now values) ≡ 256) ⌝ }
-    ensures { λ r. ⌜ GroupOf (says (now (words .entry))) group r × (length (now (values .exit)) ≡ 256) ⌝ }
+// What a sound listing, which begins with so many pairs, says of each set of the group: in the first 16 of the values.
+pub fn reading(words: &[u32], pairs: usize, group: u32, values: &mut [u64; 256])
+    requires { ⌜ SoundWith (now words) pairs × (group ≤ 63) × (length (now values) ≡ 256) ⌝ }
+    ensures { λ _. ⌜ GroupOf (says (now (words .entry))) group (now (values .exit)) × (length (now (values .exit)) ≡ 256) ⌝ }
 {
     let mut height: usize = 0;
-    let mut at: usize = 0;
+    let mut at = pairs;
     while at < words.len() / 4 {
         let end = rod::next_index(words, at);
         height = after_node(words, at, end, group, values, height);
         at = end;
     }
-    bottom(values)
 }

@@ -1,5 +1,5 @@
 -- Laws of signal sets: presence, inclusion and overlap are the code's bitwise and.
-use Prim.Native.Nat.{ℕ, zero, suc, _+_, _*_, _/_, _%_, _^_, _<_, min}
+use Prim.Native.Nat.{ℕ, zero, suc, _+_, _-_, _*_, _/_, _%_, _^_, _<_, min}
 use mathlib.Core.Bool.{Bool, true, false, not, _&&_, _||_, and-comm}
 use mathlib.Core.Path.{_≡_, refl, sym, ap, ap₂, _∙_}
 use native.Mathlib.Omega.{arith}
@@ -56,6 +56,26 @@ overlap-below (suc n) a b h =
     ∙ sym (not-and (eqb (min (a % 2) (b % 2)) 0) (eqb (bitAnd (a / 2) (b / 2)) 0))
     ∙ ap not (sym (digits 1 (bitAnd (a / 2) (b / 2)) 0 (min (a % 2) (b % 2)) 0 (omega arith) (omega arith)))
     ∙ ap (λ (x : ℕ). not (eqb x 0)) (sym (and-step a b))
+
+-- for masks of n signals: a has no signal that b lacks where `a & b == a`
+pub none-lacking : (n a b : ℕ) → a < 2 ^ n → b < 2 ^ n → eqb (bitAnd a (2 ^ n - 1 - b)) 0 ≡ eqb (bitAnd a b) a
+none-lacking zero a b ha hb =
+    let z : a ≡ 0 = omega arith in
+    eq-eqb (bitAnd a (2 ^ 0 - 1 - b)) 0 (ap (λ (x : ℕ). bitAnd x (2 ^ 0 - 1 - b)) z ∙ and-zero-l (2 ^ 0 - 1 - b))
+    ∙ sym (eq-eqb (bitAnd a b) a (ap (λ (x : ℕ). bitAnd x b) z ∙ and-zero-l b ∙ sym z))
+none-lacking (suc n) a b ha hb =
+    let half : (2 ^ suc n - 1 - b) / 2 ≡ 2 ^ n - 1 - b / 2 = omega (arith, pow-suc 2 n) in
+    let odd : (2 ^ suc n - 1 - b) % 2 ≡ 1 - b % 2 = omega (arith, pow-suc 2 n) in
+    let hd : a / 2 * 2 + a % 2 ≡ a = omega arith in
+    ap (λ (x : ℕ). eqb x 0) (and-step a (2 ^ suc n - 1 - b) ∙ ap₂ (λ (x y : ℕ). bitAnd (a / 2) x * 2 + min (a % 2) y) half odd)
+    ∙ digits 1 (bitAnd (a / 2) (2 ^ n - 1 - b / 2)) 0 (min (a % 2) (1 - b % 2)) 0 (omega arith) (omega arith)
+    ∙ ap₂ (λ (s t : Bool). s && t) (digit-lacking (a % 2) (b % 2) (omega arith) (omega arith))
+    (none-lacking n (a / 2) (b / 2) (omega (arith, pow-suc 2 n)) (omega (arith, pow-suc 2 n)))
+    ∙ sym (digits 1 (bitAnd (a / 2) (b / 2)) (a / 2) (min (a % 2) (b % 2)) (a % 2) (omega arith) (omega arith))
+    ∙ ap₂ (λ (x y : ℕ). eqb x y) (sym (and-step a b)) hd
+  where
+    digit-lacking : (p q : ℕ) → p < 2 → q < 2 → eqb (min p (1 - q)) 0 ≡ eqb (min p q) p
+    digit-lacking = two-digits (λ p q. eqb (min p (1 - q)) 0 ≡ eqb (min p q) p) refl refl refl refl
 
 -- a signal set lies inside another number: the code's `mask & set == mask`
 pub inside-and : (mask set : ℕ) → mask < 2 ^ 16 → inside mask set ≡ eqb (bitAnd mask set) mask

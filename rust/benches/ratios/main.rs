@@ -1,23 +1,44 @@
 //! Each call against optimised Rust for the same call: `cargo bench`, or `cargo bench -- read` for one of them.
+//! `choice` and `compare` also against a loop over single sets, and with `z3` against Z3 where there is one.
 //! Lent words are not cleared between calls unless a row says so.
 
 mod optimised;
 mod samples;
+mod single;
 mod timing;
+mod z3;
 
+use cerahupo::{Choice, Comparison, Declined, Refusal};
 use samples::{
-    SAMPLE, exclusions, listing, long_listing, many_mentions, never_book, never_mentions, policy, sum_book, wide_book,
+    SAMPLE, count_book, exclusions, idle_book, listing, long_listing, many_mentions, mixed, never_book, never_mentions,
+    policy, sum_book, vain_book, wide_book,
 };
-use timing::{Input, Table};
+use timing::{Input, Quotient, Table, asked};
+
+/// Prints the rows of a call.
+type Rows = fn(&Table);
 
 fn main() {
-    let table = Table::new();
-    check(&table);
-    decide(&table);
-    compile(&table);
-    read(&table);
-    choice(&table);
-    compare(&table);
+    let calls: [(&str, Rows); 6] = [
+        ("check", check),
+        ("decide", decide),
+        ("compile", compile),
+        ("read", read),
+        ("choice", choice),
+        ("compare", compare),
+    ];
+    let table = Table::new("Rust", Quotient::Ratio, 1);
+    calls.iter().filter(|call| asked(call.0)).for_each(|call| call.1(&table));
+    let table = Table::new("single", Quotient::Times, 4);
+    if asked("choice") {
+        choice_by_single_sets(&table);
+    }
+    if asked("compare") {
+        compare_by_single_sets(&table);
+    }
+    if asked("z3") {
+        by_z3(&Table::new("z3", Quotient::Times, 9));
+    }
 }
 
 fn check(table: &Table) {
@@ -108,32 +129,92 @@ fn read(table: &Table) {
 }
 
 fn choice(table: &Table) {
-    let row = |name: &str, words: Vec<u32>| {
-        let input = Input { call: "choice", name, size: words.len() / 4, unit: "records" };
-        table.row(input, || cerahupo::choice(&words), || optimised::choice(&words));
-    };
-    row("the sample, yes at set 3", listing(SAMPLE));
-    row("a sum of 16, yes at set 255", listing(&sum_book(16)));
-    row("no lines, all sets walked", listing("p sum\nc 5 < p0\n"));
-    for rules in [4, 8, 10, 12] {
-        row(&format!("a sum of {rules} and never, all sets walked"), listing(&never_book(rules)));
+    let row = |name: &str, words: &[u32]| choice_row(table, name, words, optimised::choice);
+    row("the sample, yes at set 3", &listing(SAMPLE));
+    row("a sum of 16, yes at set 255", &listing(&sum_book(16)));
+    walked_choices().iter().for_each(|(name, words)| row(name, words));
+}
+
+fn choice_by_single_sets(table: &Table) {
+    walked_choices().iter().for_each(|(name, words)| choice_row(table, name, words, single::choice));
+}
+
+fn choice_row(table: &Table, name: &str, words: &[u32], rust: fn(&[u32]) -> Result<Choice, Refusal>) {
+    let input = Input { call: "choice", name, size: words.len() / 4, unit: "records" };
+    table.row(input, || cerahupo::choice(words), || rust(words));
+}
+
+/// Listings all of whose sets are walked.
+fn walked_choices() -> Vec<(String, Vec<u32>)> {
+    let mut rows = vec![("no lines, all sets walked".to_string(), listing("p sum\nc 5 < p0\n"))];
+    for rules in [4, 8, 10, 12, 14, 16] {
+        rows.push((format!("a sum of {rules} and never, all sets walked"), listing(&never_book(rules))));
     }
-    // No other sets are read: 2,207 of the 65,536 hold none of the pairs.
-    row("a sum of 8, never, 16 pairs: 2,207 sets read", listing(&(exclusions() + &never_book(8))));
-    row("4,095 lines, yes at set 65,535", long_listing());
-    row("15 mentions of a sum of 6 and never, all walked", listing(&never_mentions(6)));
+    // Of the 65,536 sets, 2,207 hold none of the pairs.
+    rows.push(("a sum of 8, never, 16 exclusions, all walked".to_string(), listing(&(exclusions() + &never_book(8)))));
+    rows.push(("4,095 lines, yes at set 65,535".to_string(), long_listing()));
+    rows.push(("15 mentions of a sum of 6, never, all walked".to_string(), listing(&never_mentions(6))));
+    rows
 }
 
 fn compare(table: &Table) {
-    let row = |name: &str, one: &str, two: &str| {
-        let (one, two) = (listing(one), listing(two));
-        let input = Input { call: "compare", name, size: (one.len() + two.len()) / 4, unit: "records" };
-        table.row(input, || cerahupo::compare(&one, &two), || optimised::compare(&one, &two));
-    };
-    row("the sample with a sum of 16, differ early", SAMPLE, &sum_book(16));
-    for rules in [4, 8, 10, 12] {
-        row(&format!("a sum of {rules} with itself, all sets walked"), &sum_book(rules), &sum_book(rules));
+    let (one, two) = (listing(SAMPLE), listing(&sum_book(16)));
+    compare_row(table, "the sample with a sum of 16, differ early", &one, &two, optimised::compare);
+    for (name, words) in walked_comparisons() {
+        compare_row(table, &name, &words, &words.clone(), optimised::compare);
     }
+}
+
+fn compare_by_single_sets(table: &Table) {
+    for (name, words) in walked_comparisons() {
+        compare_row(table, &name, &words, &words.clone(), single::compare);
+    }
+}
+
+type Compare = fn(&[u32], &[u32]) -> Result<Comparison, Declined>;
+
+fn compare_row(table: &Table, name: &str, one: &[u32], two: &[u32], rust: Compare) {
+    let input = Input { call: "compare", name, size: (one.len() + two.len()) / 4, unit: "records" };
+    table.row(input, || cerahupo::compare(one, two), || rust(one, two));
+}
+
+/// Listings that are compared with themselves, so that all sets are walked.
+fn walked_comparisons() -> Vec<(String, Vec<u32>)> {
+    let sum = |rules: usize| (format!("a sum of {rules} with itself, all sets walked"), listing(&sum_book(rules)));
+    let count = |present: usize| {
+        (format!("at least {present} of 16 with itself, all walked"), listing(&count_book(present, |_| 0)))
+    };
+    let mut rows = [4, 8, 10, 12].map(sum).to_vec();
+    rows.extend([5, 7, 8].map(count));
     let apart = exclusions() + &sum_book(8);
-    row("a sum of 8 with itself, 16 exclusions in each", &apart, &apart);
+    rows.push(("a sum of 8 with itself, 16 pairs, all walked".to_string(), listing(&apart)));
+    rows
+}
+
+/// Two listings that are alike, or one that never gives yes, put to Z3 as formulas.
+fn by_z3(table: &Table) {
+    if !z3::found() {
+        println!("z3 is not on the path: its rows are left out");
+        return;
+    }
+    println!("z3: its whole process, to which the question, made ready before, is written through a pipe");
+    for present in [5, 7] {
+        let (one, two) = (count_book(present, |_| 0), count_book(present, mixed));
+        z3_comparison(table, &format!("at least {present} of 16, the same twice"), &one, &one);
+        z3_comparison(table, &format!("at least {present} of 16, lines in another order"), &one, &two);
+    }
+    z3_comparison(table, "7 of 16 or 7 of 8, the same twice", &idle_book(|_| 0), &idle_book(|_| 0));
+    z3_comparison(table, "7 of 16 or 7 of 8, lines in another order", &idle_book(|_| 0), &idle_book(mixed));
+    z3_comparison(table, "7 of 16 or 7 of 8 with 7 of 16", &idle_book(|_| 0), &count_book(7, |_| 0));
+    let words = listing(&vain_book());
+    let question = z3::yes_question(&words);
+    let input = Input { call: "choice", name: "9 of 16 and none of 8: never", size: words.len() / 4, unit: "records" };
+    table.row(input, || cerahupo::choice(&words) != Ok(Choice::Never), || z3::answer(&question));
+}
+
+fn z3_comparison(table: &Table, name: &str, one: &str, two: &str) {
+    let (one, two) = (listing(one), listing(two));
+    let question = z3::difference_question(&one, &two);
+    let input = Input { call: "compare", name, size: (one.len() + two.len()) / 4, unit: "records" };
+    table.row(input, || cerahupo::compare(&one, &two) != Ok(Comparison::Alike), || z3::answer(&question));
 }

@@ -37,6 +37,33 @@ pub fn never_book(rules: usize) -> String {
     format!("{}p min\nc {} < min(p0,p1)\n", policy("sum", rules, |_| 1), rules / 2 - 1)
 }
 
+/// A sum of so many scores of 100 and a little more: a limit just below N hundred asks for N rules. What is above 100
+/// decides nothing but the order of the lines.
+fn hundreds(rules: usize, above: fn(usize) -> i64) -> String {
+    policy("sum", rules, |signal| 100 + above(signal))
+}
+
+/// Scores that rank the rules in another order than their signals.
+pub fn mixed(signal: usize) -> i64 {
+    (5 * signal % 16) as i64
+}
+
+/// At least so many of 16 rules: 4,369 records for five, 11,441 for seven, 12,871 for eight.
+pub fn count_book(present: usize, above: fn(usize) -> i64) -> String {
+    format!("{}c {} < p0\n", hundreds(16, above), 100 * present - 1)
+}
+
+/// At least seven of 16 rules, or at least seven of the first eight, which changes nothing: 11,451 records.
+pub fn idle_book(above: fn(usize) -> i64) -> String {
+    format!("{}{}c 699 < max(p0,p1)\n", hundreds(16, above), hundreds(8, above))
+}
+
+/// At least nine of 16 rules, and none of the first eight, so never: 11,451 records.
+pub fn vain_book() -> String {
+    let none: String = (0..8).map(|signal| format!("r {signal} 0\n")).collect();
+    format!("{}p min 1000\n{none}c 899 < min(p0,p1)\n", hundreds(16, |_| 0))
+}
+
 /// Sixteen exclusions: of each signal and the next one, and of the last and the first.
 pub fn exclusions() -> String {
     (0..16).map(|signal| format!("x {signal} {}\n", (signal + 1) % 16)).collect()

@@ -1,8 +1,22 @@
--- `groups::add_mask`: its own set, by block and bit.
+-- `groups::add_mask`: at its own set, by block and bit, or nowhere.
+use Prim.Native.Nat.{_%_, _^_}
+use mathlib.Core.Bool.{Bool, cond}
+use mathlib.Core.Path.{sym, ap, _∙_}
+use native.Mathlib.Omega.{arith}
 use borrow.Author.Needs.{needs}
-use Rattle.groups.proofs.TableLaws.{mask-added}
+use Rattle.arith.proofs.Bits.{bit-is}
+use Rattle.groups.proofs.TableLaws.{mask-added, mask-left}
 use Rattle.groups.proofs.add_mask.Statement.{statement}
 use Rattle.groups.proofs.add_mask.Tie as tie
+
+is-within-requires : tie.Need-is-within-requires
+is-within-requires c κs = search needs
+
+cast-bit : tie.Need-cast-bit
+cast-bit c = search needs
+
+shl-bit : tie.Need-shl-bit
+shl-bit c = search needs
 
 cast-k : tie.Need-cast-k
 cast-k c = search needs
@@ -13,9 +27,6 @@ mul-table c = search needs
 element-copy-out-table : tie.Need-element-copy-out-table
 element-copy-out-table c = search needs
 
-own-bit-requires : tie.Need-own-bit-requires
-own-bit-requires c κs = search needs
-
 mul-table-2 : tie.Need-mul-table-2
 mul-table-2 c = search needs
 
@@ -23,16 +34,25 @@ element-write-table : tie.Need-element-write-table
 element-write-table c = search needs
 
 returns : tie.Need-returns
-returns c = mask-added _ _ _ (c .before .before .pre .0) _ (c .own-bit .ensures)
+returns c =
+    let w = c .before .before in
+    mask-added _ _ _ (w .before .pre .0) _
+    (bit-is (w .before .args .mask % 64) 64 (omega arith) ∙ sym (ap (λ (t : Bool). cond t (2 ^ (w .before .args .mask % 64)) 0) (sym (w .is-within .ensures) ∙ c .before .if1 .taken)))
+
+returns-2 : tie.Need-returns-2
+returns-2 c = let w = c .before in mask-left _ _ _ (w .before .pre .0) (sym (w .is-within .ensures) ∙ c .if1 .left)
 
 pub add-mask-spec : {M : Type 1} → statement M
 add-mask-spec =
     tie.close
     (tie.spec
+    is-within-requires
+    cast-bit
+    shl-bit
     cast-k
     mul-table
     element-copy-out-table
-    own-bit-requires
     mul-table-2
     element-write-table
-    returns)
+    returns
+    returns-2)

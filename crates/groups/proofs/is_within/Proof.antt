@@ -1,12 +1,17 @@
--- `groups::is_within`: inclusion by the code's `&`.
-use mathlib.Core.Path.{sym}
-use native.Mathlib.Omega.{arith}
-use Rattle.signals.proofs.SetLaws.{inside-and}
+-- `groups::is_within`: by the code's `&`.
+use borrow.Author.Needs.{needs}
+use Rattle.groups.proofs.TableLaws.{within-test}
 use Rattle.groups.proofs.is_within.Statement.{statement}
 use Rattle.groups.proofs.is_within.Tie as tie
 
+sub-result : tie.Need-sub-result
+sub-result c = search needs
+
+mul-result : tie.Need-mul-result
+mul-result c = search needs
+
 returns : tie.Need-returns
-returns c = sym (inside-and _ _ (omega (arith, c .pre)))
+returns c = within-test _ _ (c .pre .0) (c .pre .1)
 
 pub is-within-spec : {M : Type 1} → statement M
-is-within-spec = tie.close (tie.spec returns)
+is-within-spec = tie.close (tie.spec sub-result mul-result returns)

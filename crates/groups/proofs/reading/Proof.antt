@@ -1,23 +1,21 @@
 -- `groups::reading`: the nodes to come say of each set of the group what the whole listing says; each turn takes one node and its lines.
 use Prim.Native.Nat.{_-_, _/_}
 use native.Mathlib.Omega.{arith}
-use denote.Ref.{now}
 use lib.ListN.{length}
-use Rattle.rod.specs.Reading.{says}
-use Rattle.rod.specs.Values.{nodeEnd}
+use Rattle.groups.proofs.GroupSteps.{past-pairs, group-ends}
 use Rattle.groups.specs.Values.{GroupUnderway}
-use Rattle.groups.proofs.GroupSteps.{group-begins, group-ends}
+use Rattle.rod.specs.Values.{nodeEnd}
 use Rattle.groups.proofs.reading.Statement.{statement}
 use Rattle.groups.proofs.reading.Tie as tie
 
 abbrev Inv-loop : tie.InvT-loop
-Inv-loop words group values₀ height₀ at₀ values height at = GroupUnderway words group at values height
+Inv-loop words pairs group values₀ height₀ at₀ values height at = GroupUnderway words group at values height
 
 abbrev μ-loop : tie.MeasureT-loop
-μ-loop words group values₀ height₀ at₀ values height at = length words / 4 - at
+μ-loop words pairs group values₀ height₀ at₀ values height at = length words / 4 - at
 
 loop-holds : tie.Need-loop-holds Inv-loop μ-loop
-loop-holds c = let p = c .before .pre in group-begins _ _ _ (p .2) (p .0) (p .1)
+loop-holds c = let p = c .before .pre in past-pairs _ _ _ _ (p .2) (p .0) (p .1) _ (omega arith)
 
 next-index-requires : tie.Need-next-index-requires Inv-loop μ-loop
 next-index-requires c κs = (c .loop-test .taken, c .before .loop .inv .node)
@@ -32,15 +30,8 @@ loop-less c = let n = c .before .before in omega (arith, n .next-index .ensures,
 loop-again : tie.Need-loop-again Inv-loop μ-loop
 loop-again c = c .after-node .ensures
 
-bottom-requires : tie.Need-bottom-requires Inv-loop μ-loop
-bottom-requires c κs = c .before .before .loop .inv .room
-
 returns : tie.Need-returns Inv-loop μ-loop
-returns c =
-    let e = c .before .before in
-    let u = e .before .loop .inv in
-    let a = e .before .before .before .args in
-    (c .bottom .ensures (says (now (a .words))) (a .group) (group-ends _ _ _ _ _ (e .loop-test .left) u), u .room)
+returns c = let u = c .before .loop .inv in (group-ends _ _ _ _ _ (c .loop-test .left) u, u .room)
 
 pub reading-spec : {M : Type 1} → statement M
 reading-spec =
@@ -53,5 +44,4 @@ reading-spec =
     after-node-requires
     loop-less
     loop-again
-    bottom-requires
     returns)

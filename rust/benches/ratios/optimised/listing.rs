@@ -1,12 +1,12 @@
-//! Judging, reading and checking listings.
+//! Judging and reading listings.
 
 use super::{decision, refused};
-use cerahupo::{Choice, Comparison, Decision, Declined, Listing, Refusal};
+use cerahupo::{Decision, Refusal};
 
-type Record = [u32; 4];
+pub type Record = [u32; 4];
 
 /// The records of a sound listing, or its refusal.
-fn check(words: &[u32]) -> Result<&[Record], Refusal> {
+pub fn check(words: &[u32]) -> Result<&[Record], Refusal> {
     let (records, rest) = words.as_chunks::<4>();
     if records.is_empty() || !rest.is_empty() {
         return refused(9, 0);
@@ -63,7 +63,11 @@ fn check_lines(lines: &[Record], policy: u32, first: usize) -> Result<(), Refusa
 }
 
 pub fn read(words: &[u32], set: u16) -> Result<Decision, Refusal> {
-    let records = check(words)?;
+    Ok(decision(says(check(words)?, set)))
+}
+
+/// What a sound listing says of one set.
+pub fn says(records: &[Record], set: u16) -> bool {
     let mut values = 0u32;
     let mut at = 0;
     loop {
@@ -79,101 +83,18 @@ pub fn read(words: &[u32], set: u16) -> Result<Decision, Refusal> {
             }
         };
         if next == 0 {
-            return Ok(decision(values == 1));
+            return values == 1;
         }
         at = next as usize - 1;
     }
 }
 
 /// Takes the last two values, the lowest bits, and puts back their join.
-fn join(values: u32, with: impl Fn(u32, u32) -> u32) -> u32 {
+pub fn join(values: u32, with: impl Fn(u32, u32) -> u32) -> u32 {
     values >> 2 << 1 | with(values >> 1 & 1, values & 1)
 }
 
-fn policy_says(kind: u32, mask: u32, set: u16, mut lines: impl Iterator<Item = u32>) -> bool {
+pub fn policy_says(kind: u32, mask: u32, set: u16, mut lines: impl Iterator<Item = u32>) -> bool {
     let absent = !u32::from(set);
     if mask & !absent == 0 { kind & 1 == 1 } else { lines.any(|line| line & absent == 0) != (kind & 2 != 0) }
-}
-
-/// A listing made ready for many readings.
-struct Ready {
-    pairs: Vec<u16>,
-    nodes: Vec<Node>,
-    lines: Vec<u16>,
-}
-
-/// A node; a policy's lines are a part of all lines.
-struct Node {
-    kind: u32,
-    mask: u32,
-    from: usize,
-    to: usize,
-}
-
-impl Ready {
-    fn new(words: &[u32]) -> Result<Ready, Refusal> {
-        let records = check(words)?;
-        let lines = Vec::with_capacity(records.len());
-        let mut ready = Ready { pairs: Vec::new(), nodes: Vec::with_capacity(31), lines };
-        for &[kind, mask, ..] in records {
-            if kind == 5 {
-                ready.pairs.push(mask as u16);
-            } else if kind == 4 {
-                ready.lines.push(mask as u16);
-                if let Some(node) = ready.nodes.last_mut() {
-                    node.to += 1;
-                }
-            } else {
-                let from = ready.lines.len();
-                ready.nodes.push(Node { kind, mask, from, to: from });
-            }
-        }
-        Ok(ready)
-    }
-
-    fn permits(&self, set: u16) -> bool {
-        self.pairs.iter().all(|pair| pair & !set != 0)
-    }
-
-    fn says(&self, set: u16) -> bool {
-        let mut values = 0;
-        for node in &self.nodes {
-            values = match node.kind {
-                2 => join(values, |left, right| left & right),
-                3 => join(values, |left, right| left | right),
-                kind => {
-                    let lines = self.lines[node.from..node.to].iter().map(|&line| line.into());
-                    values << 1 | u32::from(policy_says(kind, node.mask, set, lines))
-                }
-            };
-        }
-        values == 1
-    }
-}
-
-pub fn choice(words: &[u32]) -> Result<Choice, Refusal> {
-    let listing = Ready::new(words)?;
-    let first = listing.says(0);
-    Ok(match (1..=u16::MAX).find(|&set| listing.permits(set) && listing.says(set) != first) {
-        None if first => Choice::Always,
-        None => Choice::Never,
-        Some(no) if first => Choice::Both { yes: 0, no },
-        Some(yes) => Choice::Both { yes, no: 0 },
-    })
-}
-
-pub fn compare(one: &[u32], two: &[u32]) -> Result<Comparison, Declined> {
-    let first = Ready::new(one).map_err(|refusal| Declined { listing: Listing::First, refusal })?;
-    let second = Ready::new(two).map_err(|refusal| Declined { listing: Listing::Second, refusal })?;
-    for set in 0..=u16::MAX {
-        if !first.permits(set) || !second.permits(set) {
-            continue;
-        }
-        let yes = first.says(set);
-        if yes != second.says(set) {
-            let yes = if yes { Listing::First } else { Listing::Second };
-            return Ok(Comparison::Differ { set, yes });
-        }
-    }
-    Ok(Comparison::Alike)
 }

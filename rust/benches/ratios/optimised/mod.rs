@@ -3,13 +3,15 @@
 
 mod book;
 mod compiling;
-mod listing;
+mod groups;
+pub mod listing;
 mod scoring;
 
 use cerahupo::{Counts, Decision, Refusal};
 
 pub use compiling::compile;
-pub use listing::{choice, compare, read};
+pub use groups::{choice, compare};
+pub use listing::read;
 
 fn refused<T>(number: u8, value: usize) -> Result<T, Refusal> {
     Err(Refusal { number, value: value as u64 })

@@ -1,21 +1,21 @@
--- `groups::some_inside`: the masks of the records before the next are in the table; then they are spread.
+-- `groups::gather_rest`: the masks of the records before the next are in the table.
 use Prim.Native.Nat.{_-_, _/_, _<_}
 use denote.Ref.{now}
 use native.Mathlib.Omega.{arith}
 use lib.ListN.{length}
 use borrow.Author.Needs.{needs}
-use Rattle.groups.proofs.TableLaws.{Gathered, gathered-none, mask-within, mask-set, gathered-more, gathered-all, reached-all}
-use Rattle.groups.proofs.some_inside.Statement.{statement}
-use Rattle.groups.proofs.some_inside.Tie as tie
+use Rattle.groups.proofs.TableLaws.{Gathering, gathered-none, mask-within, mask-set, gathered-more, gathered-all}
+use Rattle.groups.proofs.gather_rest.Statement.{statement}
+use Rattle.groups.proofs.gather_rest.Tie as tie
 
 abbrev Inv-loop : tie.InvT-loop
-Inv-loop words from end group table₀ i₀ table i = Gathered words from end group table i
+Inv-loop words from end group table₀ i₀ table i = Gathering words from end group table₀ table i
 
 abbrev μ-loop : tie.MeasureT-loop
 μ-loop words from end group table₀ i₀ table i = end - i
 
 loop-holds : tie.Need-loop-holds Inv-loop μ-loop
-loop-holds c = gathered-none _ _ _ _ (c .before .pre .1)
+loop-holds c = let p = c .before .pre in gathered-none _ _ _ _ _ (p .0) (p .2)
 
 -- the record at hand
 here : (c : tie.In-loop Inv-loop μ-loop) → c .before .loop .i < length (now (c .before .before .before .args .words)) / 4
@@ -34,7 +34,7 @@ shared-slice-read-add-mask : tie.Need-shared-slice-read-add-mask Inv-loop μ-loo
 shared-slice-read-add-mask c = omega (arith, here (c .before .before))
 
 add-mask-requires : tie.Need-add-mask-requires Inv-loop μ-loop
-add-mask-requires c κs = let t = c .before .before in let g = t .before .loop .inv in (g .room, mask-set g (t .loop-test .taken))
+add-mask-requires c κs = let t = c .before .before in let g = t .before .loop .inv in (g .room, mask-set g (t .loop-test .taken), t .before .before .before .pre .1)
 
 add-i : tie.Need-add-i Inv-loop μ-loop
 add-i c = search needs
@@ -45,17 +45,11 @@ loop-less c = search needs
 loop-again : tie.Need-loop-again Inv-loop μ-loop
 loop-again c = let t = c .before .before .before in gathered-more (t .before .loop .inv) (t .loop-test .taken) _ (c .add-mask .ensures)
 
-spread-requires : tie.Need-spread-requires Inv-loop μ-loop
-spread-requires c κs = c .before .before .loop .inv .room
-
 returns : tie.Need-returns Inv-loop μ-loop
-returns c =
-    let e = c .before .before in
-    let p = e .before .before .before .pre in
-    reached-all _ _ _ (p .0) (p .1 .sets) (c .spread .ensures _ _ (gathered-all (e .before .loop .inv) (e .loop-test .left)))
+returns c = gathered-all (c .before .loop .inv) (c .loop-test .left)
 
-pub some-inside-spec : {M : Type 1} → statement M
-some-inside-spec =
+pub gather-rest-spec : {M : Type 1} → statement M
+gather-rest-spec =
     tie.close
     (tie.spec
     Inv-loop
@@ -69,5 +63,4 @@ some-inside-spec =
     add-i
     loop-less
     loop-again
-    spread-requires
     returns)

@@ -1,4 +1,4 @@
--- `checks::pair_count`: the pairs above the index and those from it on are all pairs.
+-- `groups::pair_count`: the pairs above the index and those from it on are all pairs.
 use Prim.Native.Nat.{_+_, _-_, _/_, _≤_}
 use mathlib.Core.Path.{_≡_, ap}
 use borrow.Author.Needs.{needs}
@@ -7,10 +7,10 @@ use denote.Ref.{now}
 use lib.ListN.{length}
 use Rattle.layout.specs.Nodes.{excluded}
 use Rattle.layout.specs.Steps.{recordsFrom}
-use Rattle.checks.specs.Meaning.{pairCount}
-use Rattle.checks.proofs.Pairs.{pair-here, no-pair-here, no-pair-left}
-use Rattle.checks.proofs.pair_count.Statement.{statement}
-use Rattle.checks.proofs.pair_count.Tie as tie
+use Rattle.groups.specs.Groups.{pairCount}
+use Rattle.groups.proofs.Pairs.{pair-here, no-pair-here, no-pair-left}
+use Rattle.groups.proofs.pair_count.Statement.{statement}
+use Rattle.groups.proofs.pair_count.Tie as tie
 
 abbrev Inv-loop : tie.InvT-loop
 Inv-loop words i₀ i = (i ≤ length words / 4) × (i + length (excluded (recordsFrom words i)) ≡ pairCount words)

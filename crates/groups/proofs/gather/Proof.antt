@@ -1,0 +1,35 @@
+-- `groups::gather`: four at a turn, and then the rest.
+use native.Mathlib.Omega.{arith}
+use borrow.Author.Needs.{needs}
+use Rattle.groups.proofs.TableLaws.{masks-front, masks-rest, gathered-both}
+use Rattle.groups.proofs.gather.Statement.{statement}
+use Rattle.groups.proofs.gather.Tie as tie
+
+sub-last : tie.Need-sub-last
+sub-last c = search needs
+
+sub-last-2 : tie.Need-sub-last-2
+sub-last-2 c = search needs
+
+gather-fours-requires : tie.Need-gather-fours-requires
+gather-fours-requires c κs =
+    let p = c .before .before .pre in
+    let m = p .2 in
+    (p .0, p .1, masks-front _ _ _ _ (omega (arith, m .ordered)) (omega arith) m, omega (arith, m .ordered))
+
+gather-rest-requires : tie.Need-gather-rest-requires
+gather-rest-requires c κs =
+    let f = c .before in
+    let p = f .before .before .before .pre in
+    let m = p .2 in
+    (f .gather-fours .ensures .room, p .1, masks-rest _ _ _ _ (omega (arith, m .ordered)) (omega arith) m)
+
+returns : tie.Need-returns
+returns c =
+    let f = c .before .before in
+    let m = f .before .before .before .pre .2 in
+    gathered-both _ _ _ _ (omega (arith, m .ordered)) (omega arith) _ _ _ _ (f .gather-fours .ensures) (c .gather-rest .ensures)
+
+pub gather-spec : {M : Type 1} → statement M
+gather-spec =
+    tie.close (tie.spec sub-last sub-last-2 gather-fours-requires gather-rest-requires returns)
