@@ -18,7 +18,7 @@ use Rattle.arith.proofs.Order.{le-or-lt}
 use Rattle.signals.specs.Sets.{present, overlap}
 use Rattle.signals.proofs.SetLaws.{present-zero, present-suc, overlap-and, overlap-below}
 use Rattle.signals.proofs.BitLaws.{present-and, present-or, present-none, present-low, present-high, present-shift}
-use Rattle.blocks.specs.Blocks.{WordOf, BlockOf, without}
+use Rattle.blocks.specs.Blocks.{WordOf, without}
 
 -- ---- the patterns of the six lowest signals
 

@@ -1,6 +1,6 @@
 -- The checks' words, and their answers by the verdicts and the lowest sets.
 use Prim.Native.Nat.{ℕ, _+_, _-_, _*_, _^_, _<_}
-use mathlib.Core.Bool.{Bool, true, false, not, cond, _&&_, Bool·beq}
+use mathlib.Core.Bool.{Bool, true, false, not, cond, _&&_, Bool·not-not}
 use mathlib.Core.List.{List}
 use mathlib.Core.Option.{Option, none, some}
 use mathlib.Core.Path.{_≡_, refl, ap, ap₂, _∙_}
@@ -12,35 +12,46 @@ use Rattle.blocks.specs.Blocks.{WordOf, BlockOf}
 use Rattle.layout.specs.Judgement.{verdict}
 use Rattle.rod.specs.Reading.{says}
 use Rattle.checks.specs.Checks.{permitted, gives, lowestSet, always, never, both, choice, choiceOf, first, second, alike, differ, declined, comparison, comparisonOf, examined, differAt}
+use Rattle.checks.specs.Meaning.{apartBit}
 use Rattle.checks.proofs.Search.{lowest-zero}
 use Rattle.checks.proofs.Pairs.{permitted-zero}
 
 -- ---- words
 
 -- what is wanted of the sets of a block, by the code's branches
-module _ (free given : ℕ) (want : Bool) where
-  pub wants-yes : want ≡ true → WordOf (λ j. present free j && cond want (present given j) (not (present given j))) (bitAnd free given)
-  wants-yes w j h = rw w (present-and free given j)
+module _ (barred given : ℕ) (want : Bool) (small : barred < 2 ^ 64) where
+  pub wants-yes : want ≡ true → WordOf (λ j. not (present barred j) && cond want (present given j) (not (present given j))) (bitAnd (2 ^ 64 - 1 - barred) given)
+  wants-yes w j h = rw w (present-and (2 ^ 64 - 1 - barred) given j ∙ ap (λ (t : Bool). t && present given j) (present-not 64 barred j small h))
 
-  pub wants-no : given < 2 ^ 64 → want ≡ false → WordOf (λ j. present free j && cond want (present given j) (not (present given j))) (bitAnd free (2 ^ 64 - 1 - given))
-  wants-no small w j h = rw w (present-and free (2 ^ 64 - 1 - given) j ∙ ap (λ (t : Bool). present free j && t) (present-not 64 given j small h))
+  pub wants-no : given < 2 ^ 64 → want ≡ false
+      → WordOf (λ j. not (present barred j) && cond want (present given j) (not (present given j))) (bitAnd (2 ^ 64 - 1 - barred) (2 ^ 64 - 1 - given))
+  wants-no less w j h =
+      rw w (present-and (2 ^ 64 - 1 - barred) (2 ^ 64 - 1 - given) j ∙ ap₂ (λ (s t : Bool). s && t) (present-not 64 barred j small h) (present-not 64 given j less h))
 
--- from what is permitted and what the listing says
-pub gives-word : (ws : List ℕ) (want : Bool) (block free given word : ℕ) → BlockOf (permitted ws) block free → BlockOf (says ws) block given
-    → WordOf (λ j. present free j && cond want (present given j) (not (present given j))) word → BlockOf (gives ws want) block word
-gives-word ws want block free given word p r w j h = w j h ∙ rw (p j h, r j h) (go want)
+-- from what is barred and what the listing says
+pub gives-word : (ws : List ℕ) (want : Bool) (block barred given word : ℕ) → BlockOf (λ set. not (permitted ws set)) block barred → BlockOf (says ws) block given
+    → WordOf (λ j. not (present barred j) && cond want (present given j) (not (present given j))) word → BlockOf (gives ws want) block word
+gives-word ws want block barred given word p r w j h = w j h ∙ rw (p j h, r j h, Bool·not-not (permitted ws (64 * block + j))) (go want)
   where
     go : (b : Bool) → (permitted ws (64 * block + j) && cond b (says ws (64 * block + j)) (not (says ws (64 * block + j)))) ≡ gives ws b (64 * block + j)
     go true = refl
     go false = refl
 
--- where the two differ
-pub differ-word : (one two : List ℕ) (block p q a b : ℕ) → BlockOf (permitted one) block p → BlockOf (permitted two) block q → BlockOf (says one) block a → BlockOf (says two) block b
-    → BlockOf (differAt one two) block (bitAnd (bitAnd p q) (bitXor a b))
+-- where two words differ, and neither bars
+pub apart-bits : (barred also one two : ℕ) → barred < 2 ^ 64 → also < 2 ^ 64
+    → WordOf (apartBit barred also one two) (bitAnd (bitAnd (2 ^ 64 - 1 - barred) (2 ^ 64 - 1 - also)) (bitXor one two))
+apart-bits barred also one two small less j h =
+    present-and (bitAnd (2 ^ 64 - 1 - barred) (2 ^ 64 - 1 - also)) (bitXor one two) j
+    ∙ ap₂ (λ (s t : Bool). s && t)
+    (present-and (2 ^ 64 - 1 - barred) (2 ^ 64 - 1 - also) j ∙ ap₂ (λ (s t : Bool). s && t) (present-not 64 barred j small h) (present-not 64 also j less h))
+    (present-xor one two j)
+
+-- where the two listings differ
+pub differ-word : (one two : List ℕ) (block barred also a b word : ℕ) → BlockOf (λ set. not (permitted one set)) block barred → BlockOf (λ set. not (permitted two set)) block also
+    → BlockOf (says one) block a → BlockOf (says two) block b → WordOf (apartBit barred also a b) word → BlockOf (differAt one two) block word
 unfolding differAt
-differ-word one two block p q a b wp wq wa wb j h =
-    present-and (bitAnd p q) (bitXor a b) j
-    ∙ ap₂ (λ (s t : Bool). s && t) (present-and p q j ∙ ap₂ (λ (s t : Bool). s && t) (wp j h) (wq j h)) (present-xor a b j ∙ ap₂ (λ (s t : Bool). not (Bool·beq s t)) (wa j h) (wb j h))
+differ-word one two block barred also a b word p q r s w j h =
+    w j h ∙ rw (p j h, q j h, r j h, s j h, Bool·not-not (permitted one (64 * block + j)), Bool·not-not (permitted two (64 * block + j))) refl
 
 -- ---- the choice check
 

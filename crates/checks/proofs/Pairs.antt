@@ -1,5 +1,5 @@
 -- The sets without an excluded pair, and the words of those with one.
-use Prim.Native.Nat.{ℕ, _+_, _-_, _*_}
+use Prim.Native.Nat.{ℕ, _+_, _-_, _*_, _≤_}
 use mathlib.Core.Bool.{true, not}
 use mathlib.Core.List.{List}
 use mathlib.Core.Path.{_≡_, sym, ap, _∙_}
@@ -13,8 +13,9 @@ use Rattle.layout.specs.Judgement.{verdict}
 use Rattle.layout.specs.Nodes.{excluded}
 use Rattle.layout.proofs.Shape.{sound-exclusions}
 use Rattle.rod.specs.Reading.{someLine}
-use Rattle.groups.specs.Groups.{GroupOf, masksFrom, SoundWith}
-use Rattle.groups.proofs.Pairs.{pair-run}
+use Rattle.groups.specs.Groups.{GroupOf, masksFrom, SoundWith, Reached}
+use Rattle.groups.proofs.TableLaws.{reached-all}
+use Rattle.groups.proofs.Pairs.{pair-masks, pair-run}
 use Rattle.checks.specs.Checks.{permitted}
 
 -- a set is not permitted where some pair lies inside it
@@ -26,6 +27,10 @@ barred-else ws pairs s set =
 pub barred-group : (ws : List ℕ) (pairs group : ℕ) (table : List ℕ) → SoundWith ws pairs → GroupOf (someLine (masksFrom ws 0 (pairs - 0))) group table
     → GroupOf (λ set. not (permitted ws set)) group table
 barred-group ws pairs group table s g k b j h = g k b j h ∙ barred-else ws pairs s (64 * (16 * group + k) + j)
+
+pub barred-reached : (ws : List ℕ) (pairs group : ℕ) (table : List ℕ) → SoundWith ws pairs → group ≤ 63 → Reached 10 (masksFrom ws 0 (pairs - 0)) group table
+    → GroupOf (λ set. not (permitted ws set)) group table
+barred-reached ws pairs group table s h r = barred-group ws pairs group table s (reached-all (masksFrom ws 0 (pairs - 0)) group table h (pair-masks ws pairs s .sets) r)
 
 -- set 0 has no pair
 pub permitted-zero : (ws : List ℕ) → verdict ws ≡ result tt → permitted ws 0 ≡ true

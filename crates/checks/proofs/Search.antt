@@ -1,16 +1,13 @@
 -- The search for the lowest set, a set, a block and a group at a time.
 use Prim.Native.Nat.{ℕ, zero, suc, _+_, _-_, _*_, _^_, _≤_, _<_}
 use mathlib.Core.Bool.{Bool, true, false, cond}
-use mathlib.Core.List.{List}
 use mathlib.Core.Option.{Option, none, some}
 use mathlib.Core.Path.{_≡_, refl, sym, ap, _∙_}
 use native.Mathlib.Nat.{add-zero}
 use native.Mathlib.Omega.{arith}
 use lib.Count.{trailingZeros}
-use lib.ListN.{getD}
 use Rattle.signals.specs.Sets.{present}
 use Rattle.blocks.specs.Blocks.{BlockOf}
-use Rattle.groups.specs.Groups.{GroupOf}
 use Rattle.signals.proofs.BitLaws.{present-none, lowest-bit}
 use Rattle.checks.specs.Checks.{lowestFrom, lowestSince, lowestSet}
 use Rattle.checks.specs.declared.Found.{Found}
@@ -75,26 +72,22 @@ module _ (test : ℕ → Bool) (block word : ℕ) (within : block ≤ 1023) (w :
 
 -- ---- a group at a time
 
--- the lowest set from block k of a group on is the lowest from the group on, by the words of a table before it
-pub record FromBlock (group : ℕ) (table : List ℕ) (k : ℕ) : Type 0 where
-  pub same : (test : ℕ → Bool) → GroupOf test group table → lowestSince (64 * (16 * group + k)) test ≡ lowestSince (1024 * group) test
-
-module _ (group : ℕ) (table : List ℕ) (within : group ≤ 63) where
-  pub from-group : FromBlock group table 0
-  from-group = record { same = λ test w. ap (λ (x : ℕ). lowestSince x test) (start group) }
+module _ (test : ℕ → Bool) (group : ℕ) where
+  pub from-group : lowestSince (64 * (16 * group + 0)) test ≡ lowestSince (1024 * group) test
+  from-group = ap (λ (x : ℕ). lowestSince x test) (start group)
     where
       start : (g : ℕ) → 64 * (16 * g + 0) ≡ 1024 * g
       start g = omega arith
 
-  pub next-block : (k : ℕ) → k < 16 → FromBlock group table k → getD table k 0 ≡ 0 → FromBlock group table (k + 1)
-  next-block k l f e =
-      record { same = λ test w. ap (λ (x : ℕ). lowestSince x test) (next group k) ∙ block-later test (16 * group + k) (getD table k 0) (omega arith) (w k l) e ∙ f .same test w }
+  pub next-block : (k word : ℕ) → group ≤ 63 → k < 16 → BlockOf test (16 * group + k) word → word ≡ 0
+      → lowestSince (64 * (16 * group + (k + 1))) test ≡ lowestSince (64 * (16 * group + k)) test
+  next-block k word within l w e = ap (λ (x : ℕ). lowestSince x test) (next group k) ∙ block-later test (16 * group + k) word (omega arith) w e
     where
       next : (g i : ℕ) → 64 * (16 * g + (i + 1)) ≡ 64 * (16 * g + i + 1)
       next g i = omega arith
 
-  pub next-group : (k : ℕ) → k ≡ 16 → FromBlock group table k → (test : ℕ → Bool) → GroupOf test group table → lowestSince (1024 * (group + 1)) test ≡ lowestSince (1024 * group) test
-  next-group k e f test w = ap (λ (x : ℕ). lowestSince x test) (next group k e) ∙ f .same test w
+  pub next-group : (k : ℕ) → k ≡ 16 → lowestSince (1024 * (group + 1)) test ≡ lowestSince (64 * (16 * group + k)) test
+  next-group k e = ap (λ (x : ℕ). lowestSince x test) (next group k e)
     where
       next : (g i : ℕ) → i ≡ 16 → 1024 * (g + 1) ≡ 64 * (16 * g + i)
       next g i e = omega arith

@@ -1,16 +1,11 @@
 -- What the answers of the code mean, by document 01's numbers.
 use Prim.Native.Nat.{ℕ, _+_, _*_}
-use mathlib.Core.Bool.{Bool}
-use mathlib.Core.List.{List}
+use mathlib.Core.Bool.{Bool, not, _&&_, Bool·beq}
 use mathlib.Core.Option.{Option, none, some}
 use mathlib.Core.Path.{_≡_}
-use lib.ListN.{length}
 use Rattle.answers.specs.Answers.{Answer, result}
-use Rattle.layout.specs.Records.{records}
-use Rattle.layout.specs.Nodes.{excluded}
-use Rattle.layout.specs.Judgement.{verdict}
+use Rattle.signals.specs.Sets.{present}
 use Rattle.layout.specs.Meaning.{faultNumber, faultValue, faultMeaning}
-use Rattle.groups.specs.Groups.{GroupOf}
 use Rattle.checks.specs.Checks.{lowestSince, Choice, always, never, both, Comparison, alike, differ, declined, first, second}
 use Rattle.checks.specs.declared.Found.{Found}
 use Rattle.checks.specs.declared.Found.the-variants.{At, Nowhere}
@@ -46,16 +41,10 @@ abbrev pub foundOr : Option ℕ → Option ℕ → Option ℕ
 foundOr (some set) later = some set
 foundOr none later = later
 
--- the lowest set from a group on is what was found in its table, or else the lowest from the next group on
-abbrev pub FoundIn : Found → ℕ → List ℕ → Type 0
-FoundIn found group table =
-    (test : ℕ → Bool) → GroupOf test group table
-    → foundOr (foundMeaning found) (lowestSince (1024 * (group + 1)) test) ≡ lowestSince (1024 * group) test
+-- the lowest set from a group on that passes the test is what was found in the group, or else the lowest from the next group on
+abbrev pub FoundIn : (ℕ → Bool) → ℕ → Found → Type 0
+FoundIn test group found = foundOr (foundMeaning found) (lowestSince (1024 * (group + 1)) test) ≡ lowestSince (1024 * group) test
 
--- how many excluded pairs a listing begins with
-abbrev pub pairCount : List ℕ → ℕ
-pairCount ws = length (excluded (records ws))
-
--- the words are a sound listing that begins with so many pairs
-abbrev pub SoundWith : List ℕ → ℕ → Type 0
-SoundWith ws pairs = (verdict ws ≡ result tt) × (pairs ≡ pairCount ws)
+-- set j of a block is barred by neither word, and the other two differ on it
+abbrev pub apartBit : ℕ → ℕ → ℕ → ℕ → ℕ → Bool
+apartBit barred also one two j = not (present barred j) && not (present also j) && not (Bool·beq (present one j) (present two j))

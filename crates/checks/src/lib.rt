@@ -9,9 +9,9 @@ ghost use Rattle.answers.specs.Answers.{result};
 ghost use Rattle.signals.specs.Sets.{present};
 ghost use Rattle.blocks.specs.Blocks.{WordOf, BlockOf};
 ghost use Rattle.layout.specs.Judgement.{verdict};
-ghost use Rattle.groups.specs.Groups.{GroupOf};
+ghost use Rattle.groups.specs.Groups.{GroupOf, SoundWith};
 ghost use Rattle.checks.specs.Checks.{permitted, gives, lowestSet, lowestSince, choice, differAt, comparison};
-ghost use Rattle.checks.specs.Meaning.{pairCount, SoundWith, FoundIn, foundMeaning, choiceMeaning, comparisonMeaning};
+ghost use Rattle.checks.specs.Meaning.{FoundIn, apartBit, foundMeaning, choiceMeaning, comparisonMeaning};
 
 // How many groups of 1,024 signal sets there are.
 const GROUPS: u32 = 64;

@@ -71,3 +71,7 @@ pub record Gathered (ws : List ℕ) (from end group : ℕ) (table left : List �
 pub record Spread (signal : ℕ) (table left : List ℕ) : Type 0 where
   pub room : length left ≡ 16
   pub told : (x : ℕ) → x < 1024 → tells left x ≡ (tells table x || tells table (without signal x))
+
+-- and so for all ten signals
+abbrev pub AllSpread : List ℕ → List ℕ → Type 0
+AllSpread table left = (masks : List ℕ) (group : ℕ) → Reached 0 masks group table → Reached 10 masks group left

@@ -12,7 +12,7 @@ use Rattle.layout.specs.Records.{Join}
 use Rattle.layout.specs.Nodes.{ListedPolicy, leadingLines, nodes}
 use Rattle.layout.specs.Steps.{recordsFrom}
 use Rattle.rod.specs.Reading.{policyValue, joined, remaining, says}
-use Rattle.rod.specs.Values.{AllSets, nodeEnd, NodeAt}
+use Rattle.rod.specs.Values.{AllSets, policyAt, nodeEnd, NodeAt}
 
 -- where word k of the value at a height stands
 abbrev pub valueWord : ℕ → ℕ → ℕ
@@ -25,6 +25,10 @@ PolicyWord p group k word = BlockOf (λ set. policyValue set p) (16 * group + k)
 -- the policy's value is put at this height
 abbrev pub PolicyPut : ListedPolicy → ℕ → ℕ → List ℕ → List ℕ → Type 0
 PolicyPut p group height values left = Written (valueWord height) (PolicyWord p group) 16 values left
+
+-- what the policy at an index says is put at this height
+abbrev pub Said : List ℕ → ℕ → Bool → Bool → ℕ → ℕ → List ℕ → List ℕ → Type 0
+Said ws at quiet turned group height values left = PolicyPut (policyAt ws at quiet turned) group height values left
 
 -- what a policy says of set j of a block, by the words of its overlap and of its lines; the last two are all sets or none
 abbrev pub policyBit : ℕ → ℕ → ℕ → ℕ → ℕ → Bool

@@ -1,16 +1,15 @@
 // What a sound listing says of 1,024 sets at once. A group is 16 blocks, the sets from 1024 * group on, and a table has a word
 // for each block. The functions are for the crates above, and allocate nothing.
 ghost use mathlib.Core.Bool.{true};
-ghost use mathlib.Core.List.{List};
 ghost use mathlib.Core.Path.{_≡_};
-ghost use Prim.Native.Nat.{ℕ, _-_, _/_, _%_, _≤_, _<_};
+ghost use Prim.Native.Nat.{_-_, _/_, _%_, _≤_, _<_};
 ghost use lib.ListN.{length};
 ghost use Rattle.signals.specs.Sets.{present, inside, overlap};
 ghost use Rattle.blocks.specs.Blocks.{WordOf};
 ghost use Rattle.rod.specs.Reading.{someLine, joined, says};
-ghost use Rattle.rod.specs.Values.{joinMeaning, policyAt, nodeEnd};
-ghost use Rattle.groups.specs.Groups.{GroupOf, masksFrom, MasksAt, pairCount, SoundWith, Reached, Added, Gathered, Spread};
-ghost use Rattle.groups.specs.Values.{policyBit, EvenOverlap, EvenPut, BlocksPut, PolicyPut, JoinPut, PolicyHere, GroupUnderway};
+ghost use Rattle.rod.specs.Values.{joinMeaning, nodeEnd};
+ghost use Rattle.groups.specs.Groups.{GroupOf, masksFrom, MasksAt, pairCount, SoundWith, Added, Gathered, Spread, AllSpread};
+ghost use Rattle.groups.specs.Values.{policyBit, EvenOverlap, EvenPut, BlocksPut, Said, JoinPut, PolicyHere, GroupUnderway};
 
 // How many excluded pairs the listing begins with.
 pub fn pair_count(words: &[u32]) -> usize
@@ -111,7 +110,7 @@ fn spread_high(table: &mut [u64; 16], signal: u32)
 // Each set gets what is told of the sets inside it.
 pub fn spread(table: &mut [u64; 16])
     requires { ⌜ length (now table) ≡ 16 ⌝ }
-    ensures { λ _. ⌜ ((masks : List ℕ) (group : ℕ) → Reached 0 masks group (now (table .entry)) → Reached 10 masks group (now (table .exit))) ⌝ }
+    ensures { λ _. ⌜ AllSpread (now (table .entry)) (now (table .exit)) ⌝ }
 {
     spread_low(table, 0);
     spread_low(table, 1);
@@ -185,7 +184,8 @@ fn put_blocks(
     turn: u64,
     still: u64,
 )
-    requires { ⌜ (length (now values) ≡ 256) × (height < 16) × (mask ≤ 65535) × (group ≤ 63) × WordOf (overlap (mask % 64)) low ⌝ }
+    requires { ⌜ (length (now values) ≡ 256) × (height < 16) ⌝ }
+    requires { ⌜ (mask ≤ 65535) × (group ≤ 63) × WordOf (overlap (mask % 64)) low ⌝ }
     ensures { λ _. ⌜ BlocksPut mask group found turn still height (now (values .entry)) (now (values .exit)) ⌝ }
 {
     let mut k: usize = 0;
@@ -208,7 +208,7 @@ fn put_policy(
     height: usize,
 )
     requires { ⌜ (length (now values) ≡ 256) × (height < 16) × (group ≤ 63) × PolicyHere (now words) at end ⌝ }
-    ensures { λ _. ⌜ PolicyPut (policyAt (now (words .entry)) at quiet turned) group height (now (values .entry)) (now (values .exit)) ⌝ }
+    ensures { λ _. ⌜ Said (now (words .entry)) at quiet turned group height (now (values .entry)) (now (values .exit)) ⌝ }
 {
     let mask = words[at * 4 + 1];
     let found = lines_inside(words, at + 1, end, group);
@@ -253,7 +253,8 @@ fn after_node(
     values: &mut [u64; 256],
     height: usize,
 ) -> usize
-    requires { ⌜ (at < length (now words) / 4) × (end ≡ nodeEnd (now words) at) × GroupUnderway (now words) group at (now values) height ⌝ }
+    requires { ⌜ (at < length (now words) / 4) × (end ≡ nodeEnd (now words) at) ⌝ }
+    requires { ⌜ GroupUnderway (now words) group at (now values) height ⌝ }
     ensures { λ r. ⌜ GroupUnderway (now (words .entry)) group end (now (values .exit)) r ⌝ }
 {
     let k = layout::kind_of(words[at * 4]);
@@ -279,7 +280,8 @@ fn after_node(
 // What a sound listing, which begins with so many pairs, says of each set of the group: in the first 16 of the values.
 pub fn reading(words: &[u32], pairs: usize, group: u32, values: &mut [u64; 256])
     requires { ⌜ SoundWith (now words) pairs × (group ≤ 63) × (length (now values) ≡ 256) ⌝ }
-    ensures { λ _. ⌜ GroupOf (says (now (words .entry))) group (now (values .exit)) × (length (now (values .exit)) ≡ 256) ⌝ }
+    ensures { λ _. ⌜ GroupOf (says (now (words .entry))) group (now (values .exit)) ⌝ }
+    ensures { λ _. ⌜ length (now (values .exit)) ≡ 256 ⌝ }
 {
     let mut height: usize = 0;
     let mut at = pairs;

@@ -1,5 +1,5 @@
 -- `blocks::spread`: the signal's weight is how far apart a set with it and the set without it are.
-use Prim.Native.Nat.{_*_, _%_, _^_, _<_}
+use Prim.Native.Nat.{_*_, _%_, _^_}
 use mathlib.Core.Path.{_≡_}
 use native.Mathlib.Omega.{arith}
 use lib.Pow.{pow-lt}

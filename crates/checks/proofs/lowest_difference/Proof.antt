@@ -10,11 +10,11 @@ use Rattle.checks.proofs.lowest_difference.Statement.{statement}
 use Rattle.checks.proofs.lowest_difference.Tie as tie
 
 abbrev Inv-loop : tie.InvT-loop
-Inv-loop one two pairs others values₀ group₀ values group =
-    (group ≤ 64) × (length values ≡ 256) × (lowestSince (1024 * group) (differAt one two) ≡ lowestSet (differAt one two))
+Inv-loop one two pairs others firsts₀ seconds₀ group₀ firsts seconds group =
+    (group ≤ 64) × (length firsts ≡ 256) × (length seconds ≡ 256) × (lowestSince (1024 * group) (differAt one two) ≡ lowestSet (differAt one two))
 
 abbrev μ-loop : tie.MeasureT-loop
-μ-loop one two pairs others values₀ group₀ values group = 64 - group
+μ-loop one two pairs others firsts₀ seconds₀ group₀ firsts seconds group = 64 - group
 
 pair-count-requires : tie.Need-pair-count-requires Inv-loop μ-loop
 pair-count-requires c κs = search needs
@@ -23,17 +23,15 @@ pair-count-requires-2 : tie.Need-pair-count-requires-2 Inv-loop μ-loop
 pair-count-requires-2 c κs = search needs
 
 loop-holds : tie.Need-loop-holds Inv-loop μ-loop
-loop-holds c = (omega arith, refl, from-zero _)
+loop-holds c = (omega arith, refl, refl, from-zero _)
 
-group-difference-requires : tie.Need-group-difference-requires Inv-loop μ-loop
-group-difference-requires c κs =
-    let t = c .before in
+difference-in-requires : tie.Need-difference-in-requires Inv-loop μ-loop
+difference-in-requires c κs =
+    let t = c .before .before in
     let n = t .before .before in
     let p = n .before .before .before .before .pre in
-    ((p .0, n .before .pair-count .ensures), (p .1, n .pair-count2 .ensures), omega (arith, t .loop-test .taken), t .before .loop .inv .1)
-
-lowest-in-group-requires : tie.Need-lowest-in-group-requires Inv-loop μ-loop
-lowest-in-group-requires c κs = search needs
+    let i = t .before .loop .inv in
+    (((p .0, n .before .pair-count .ensures), (p .1, n .pair-count2 .ensures), omega (arith, t .loop-test .taken)), (i .1, i .2))
 
 enum-told : tie.Need-enum-told Inv-loop μ-loop
 enum-told c = search needs
@@ -43,9 +41,9 @@ enum-told-2 c = search needs
 
 returns : tie.Need-returns Inv-loop μ-loop
 returns c =
-    let l = c .before .before in
-    let t = l .before .before .before in
-    found-set _ _ _ (l .lowest-in-group .ensures _ (l .before .group-difference .ensures .0)) _ (c .enum-told2 .given .1) ∙ t .before .loop .inv .2
+    let f = c .before .before in
+    let t = f .before .before .before in
+    found-set _ _ _ (f .difference-in .ensures .0) _ (c .enum-told2 .given .1) ∙ t .before .loop .inv .3
 
 add-group : tie.Need-add-group Inv-loop μ-loop
 add-group c = search needs
@@ -55,15 +53,17 @@ loop-less c = search needs
 
 loop-again : tie.Need-loop-again Inv-loop μ-loop
 loop-again c =
-    let l = c .before .before in
-    let t = l .before .before .before in (
+    let f = c .before .before in
+    let t = f .before .before .before in
+    let e = f .difference-in .ensures in (
       omega (arith, t .loop-test .taken),
-      l .before .group-difference .ensures .1,
-      found-nowhere _ _ _ (l .lowest-in-group .ensures _ (l .before .group-difference .ensures .0)) (c .enum-told .given .1) ∙ t .before .loop .inv .2,
+      e .1 .0,
+      e .1 .1,
+      found-nowhere _ _ _ (e .0) (c .enum-told .given .1) ∙ t .before .loop .inv .3,
     )
 
 returns-2 : tie.Need-returns-2 Inv-loop μ-loop
-returns-2 c = let l = c .before .loop in found-none _ _ (omega (arith, c .loop-test .left)) ∙ l .inv .2
+returns-2 c = let l = c .before .loop in found-none _ _ (omega (arith, c .loop-test .left)) ∙ l .inv .3
 
 pub lowest-difference-spec : {M : Type 1} → statement M
 lowest-difference-spec =
@@ -74,8 +74,7 @@ lowest-difference-spec =
     pair-count-requires
     pair-count-requires-2
     loop-holds
-    group-difference-requires
-    lowest-in-group-requires
+    difference-in-requires
     enum-told
     enum-told-2
     returns

@@ -22,14 +22,11 @@ pair-count-requires c κs = search needs
 loop-holds : tie.Need-loop-holds Inv-loop μ-loop
 loop-holds c = (omega arith, refl, from-zero _)
 
-group-wanted-requires : tie.Need-group-wanted-requires Inv-loop μ-loop
-group-wanted-requires c κs =
+wanted-in-requires : tie.Need-wanted-in-requires Inv-loop μ-loop
+wanted-in-requires c κs =
     let t = c .before in
     let n = t .before .before in
     ((n .before .before .pre, n .pair-count .ensures), omega (arith, t .loop-test .taken), t .before .loop .inv .1)
-
-lowest-in-group-requires : tie.Need-lowest-in-group-requires Inv-loop μ-loop
-lowest-in-group-requires c κs = search needs
 
 enum-told : tie.Need-enum-told Inv-loop μ-loop
 enum-told c = search needs
@@ -39,9 +36,9 @@ enum-told-2 c = search needs
 
 returns : tie.Need-returns Inv-loop μ-loop
 returns c =
-    let l = c .before .before in
-    let t = l .before .before .before in
-    found-set _ _ _ (l .lowest-in-group .ensures _ (l .before .group-wanted .ensures .0)) _ (c .enum-told2 .given .1) ∙ t .before .loop .inv .2
+    let f = c .before .before in
+    let t = f .before .before in
+    found-set _ _ _ (f .wanted-in .ensures .0) _ (c .enum-told2 .given .1) ∙ t .before .loop .inv .2
 
 add-group : tie.Need-add-group Inv-loop μ-loop
 add-group c = search needs
@@ -51,11 +48,11 @@ loop-less c = search needs
 
 loop-again : tie.Need-loop-again Inv-loop μ-loop
 loop-again c =
-    let l = c .before .before in
-    let t = l .before .before .before in (
+    let f = c .before .before in
+    let t = f .before .before in (
       omega (arith, t .loop-test .taken),
-      l .before .group-wanted .ensures .1,
-      found-nowhere _ _ _ (l .lowest-in-group .ensures _ (l .before .group-wanted .ensures .0)) (c .enum-told .given .1) ∙ t .before .loop .inv .2,
+      f .wanted-in .ensures .1,
+      found-nowhere _ _ _ (f .wanted-in .ensures .0) (c .enum-told .given .1) ∙ t .before .loop .inv .2,
     )
 
 returns-2 : tie.Need-returns-2 Inv-loop μ-loop
@@ -69,8 +66,7 @@ lowest-wanted-spec =
     μ-loop
     pair-count-requires
     loop-holds
-    group-wanted-requires
-    lowest-in-group-requires
+    wanted-in-requires
     enum-told
     enum-told-2
     returns
