@@ -53,7 +53,7 @@ module _ {A : Type 0} (test : A → Bool) where
   any-same other [] h = refl
   any-same other (x ∷ xs) h = ap₂ (λ (a b : Bool). a || b) (h x (List·Memᴰ·head refl)) (any-same other xs (λ y m. h y (List·Memᴰ·tail m)))
 
-  -- by two tests, one of which each member that passes passes too
+  -- by a test that is one of two tests
   pub any-either : (one two : A → Bool) → ((x : A) → test x ≡ (one x || two x)) → (xs : List A) → any test xs ≡ (any one xs || any two xs)
   any-either one two h [] = refl
   any-either one two h (x ∷ xs) = ap₂ (λ (a b : Bool). a || b) (h x) (any-either one two h xs) ∙ go (one x) (two x) (any one xs) (any two xs)

@@ -36,7 +36,7 @@ having-signal word s signal e h j l = agree _ _ (every-below (λ i. Bool·beq (p
 
 -- a set that has the signal, and one that has not
 module _ (s set : ℕ) where
-  pub with-signal : present set s ≡ true → 2 ^ s + without s set ≡ set
+  with-signal : present set s ≡ true → 2 ^ s + without s set ≡ set
   unfolding present without
   with-signal e = go (set / 2 ^ s % 2) one large
     where
@@ -49,7 +49,7 @@ module _ (s set : ℕ) where
       go : (digit : ℕ) → digit ≡ 1 → 2 ^ s ≤ set → 2 ^ s + (set - digit * 2 ^ s) ≡ set
       go digit d l = rw d (omega arith)
 
-  pub without-signal : present set s ≡ false → without s set ≡ set
+  without-signal : present set s ≡ false → without s set ≡ set
   unfolding present without
   without-signal e = let n = eqb-false (set / 2 ^ s % 2) 1 e in go (set / 2 ^ s % 2) (omega arith)
     where
@@ -68,6 +68,13 @@ without-suc s set = go (present (set / 2) s) refl
     go true e = omega (arith, pow-suc 2 s, with-signal (suc s) set (present-suc set s ∙ e), with-signal s (set / 2) e)
     go false e = omega (arith, without-signal (suc s) set (present-suc set s ∙ e), without-signal s (set / 2) e)
 
+-- it has not the signal
+gone : (t set : ℕ) → present (without t set) t ≡ false
+gone zero set = present-zero (without 0 set) ∙ ne-eqb (without 0 set % 2) 1 (λ e. omega (arith, without-zero set, e))
+gone (suc t) set =
+    let half : without (suc t) set / 2 ≡ without t (set / 2) = omega (arith, without-suc t set) in
+    present-suc (without (suc t) set) t ∙ ap (λ (x : ℕ). present x t) half ∙ gone t (set / 2)
+
 -- it is no larger, and without the signal twice is without it
 module _ (s set : ℕ) where
   pub without-less : without s set ≤ set
@@ -76,12 +83,6 @@ module _ (s set : ℕ) where
       go : (t : Bool) → present set s ≡ t → without s set ≤ set
       go true e = omega (arith, with-signal s set e)
       go false e = omega (arith, without-signal s set e)
-
-  gone : (t set : ℕ) → present (without t set) t ≡ false
-  gone zero set = present-zero (without 0 set) ∙ ne-eqb (without 0 set % 2) 1 (λ e. omega (arith, without-zero set, e))
-  gone (suc t) set =
-      let half : without (suc t) set / 2 ≡ without t (set / 2) = omega (arith, without-suc t set) in
-      present-suc (without (suc t) set) t ∙ ap (λ (x : ℕ). present x t) half ∙ gone t (set / 2)
 
   pub without-twice : without s (without s set) ≡ without s set
   without-twice = without-signal s (without s set) (gone s set)

@@ -30,7 +30,7 @@ fn having(signal: u32) -> u64
     }
 }
 
-// Each set that has the signal gets what the word tells of the set without it.
+// Each set that has the signal also gets what the word tells of the set without it.
 pub fn spread(word: u64, signal: u32) -> u64
     requires { ⌜ signal < 6 ⌝ }
     ensures { λ r. ⌜ WordOf (λ j. present word j || present word (without signal j)) r ⌝ }

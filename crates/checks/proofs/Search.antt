@@ -26,7 +26,7 @@ module _ (test : ℕ → Bool) (set : ℕ) (h : set < 65536) where
   unfolding lowestSince
   found-here e = sym (ap (λ (n : ℕ). lowestFrom n set test) left ∙ step (65536 - (set + 1)) set test true e)
 
-  pub found-later : test set ≡ false → lowestSince (set + 1) test ≡ lowestSince set test
+  found-later : test set ≡ false → lowestSince (set + 1) test ≡ lowestSince set test
   unfolding lowestSince
   found-later e = sym (ap (λ (n : ℕ). lowestFrom n set test) left ∙ step (65536 - (set + 1)) set test false e)
 
@@ -56,7 +56,7 @@ skipped test set (suc n) h fails =
     next a b = omega arith
 
 module _ (test : ℕ → Bool) (block word : ℕ) (within : block ≤ 1023) (w : BlockOf test block word) where
-  pub block-later : word ≡ 0 → lowestSince (64 * (block + 1)) test ≡ lowestSince (64 * block) test
+  block-later : word ≡ 0 → lowestSince (64 * (block + 1)) test ≡ lowestSince (64 * block) test
   block-later e =
       ap (λ (x : ℕ). lowestSince x test) (next block)
       ∙ skipped test (64 * block) 64 (omega arith) (λ i l. sym (w i l) ∙ ap (λ (x : ℕ). present x i) e ∙ present-none i)

@@ -41,7 +41,7 @@ abbrev pub foundOr : Option ℕ → Option ℕ → Option ℕ
 foundOr (some set) later = some set
 foundOr none later = later
 
--- the lowest set from a group on that passes the test is what was found in the group, or else the lowest from the next group on
+-- what was found, or else the lowest set from the next group on, is the lowest set from this group on that passes the test
 abbrev pub FoundIn : (ℕ → Bool) → ℕ → Found → Type 0
 FoundIn test group found = foundOr (foundMeaning found) (lowestSince (1024 * (group + 1)) test) ≡ lowestSince (1024 * group) test
 

@@ -55,7 +55,8 @@ fn lowest_in(block: u32, word: u64) -> u16
     (64 * block + u64::trailing_zeros(word)) as u16
 }
 
-// The lowest set of the group without an excluded pair on which the sound listing gives what is wanted.
+// The lowest set of the group that has no excluded pair and on which the sound listing gives what is wanted. The values are
+// room to work in: what they hold before and after does not matter.
 fn wanted_in(words: &[u32], pairs: usize, want: bool, group: u32, values: &mut [u64; 256]) -> Found
     requires { ⌜ SoundWith (now words) pairs × (group ≤ 63) × (length (now values) ≡ 256) ⌝ }
     ensures { λ r. ⌜ FoundIn (gives (now (words .entry)) want) group r × (length (now (values .exit)) ≡ 256) ⌝ }
@@ -73,7 +74,7 @@ fn wanted_in(words: &[u32], pairs: usize, want: bool, group: u32, values: &mut [
     Found::Nowhere
 }
 
-// The lowest set without an excluded pair on which the sound listing gives what is wanted.
+// The lowest set that has no excluded pair and on which the sound listing gives what is wanted.
 fn lowest_wanted(words: &[u32], want: bool) -> Found
     requires { ⌜ verdict (now words) ≡ result tt ⌝ }
     ensures { λ r. ⌜ foundMeaning r ≡ lowestSet (gives (now (words .entry)) want) ⌝ }
@@ -138,8 +139,8 @@ fn apart_word(barred: u64, also: u64, first: u64, second: u64) -> u64
     !barred & !also & (first ^ second)
 }
 
-// The lowest set of the group without an excluded pair of either sound listing where the two differ. `one` begins with `pairs`,
-// `two` with `others`.
+// The lowest set of the group that has no excluded pair of either sound listing and where the two differ. `one` begins with
+// `pairs`, `two` with `others`; the tables are room to work in.
 fn difference_in(
     one: &[u32],
     pairs: usize,

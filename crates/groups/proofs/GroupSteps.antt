@@ -49,7 +49,7 @@ held-two values k height = ap (heldWords values k) (two height) ∙ ap (λ (i : 
 
 -- ---- the way
 
-pub group-begins : (ws : List ℕ) (group : ℕ) (values : List ℕ) → length values ≡ 256 → verdict ws ≡ result tt → group ≤ 63 → GroupUnderway ws group 0 values 0
+group-begins : (ws : List ℕ) (group : ℕ) (values : List ℕ) → length values ≡ 256 → verdict ws ≡ result tt → group ≤ 63 → GroupUnderway ws group 0 values 0
 unfolding recordsFrom noRecord heldWords column says reading first-node
 group-begins ws group values room v within =
     record { within = within; room = room; node = first-node ws v; level = refl; few = omega arith; atMost = omega arith; same = λ k b j h. refl }
@@ -102,7 +102,7 @@ module _ (ws : List ℕ) (group at : ℕ) (values : List ℕ) (height : ℕ) (lt
       }
 
   -- and no line follows it
-  pub pair-end : exclusion ≡ kindOf (getD ws (at * 4) 0) → suc at ≡ nodeEnd ws at
+  pair-end : exclusion ≡ kindOf (getD ws (at * 4) 0) → suc at ≡ nodeEnd ws at
   unfolding nodeEnd soFarAfter
   pair-end e = omega (arith, ap length (no-owner (at + 1) _ (recordsFrom ws (at + 1)) refl (step ws at lt (u .node) exclusion e .1)))
 
@@ -153,7 +153,7 @@ past-pairs ws pairs group values room s within (suc n) h =
     let u = past-pairs ws pairs group values room s within n (omega arith) in
     group-at-end ws group n (suc n) values 0 (pair-end ws group n values 0 (p .0) u (p .1)) (past-group-exclusion ws group n values 0 (p .0) u (p .1))
 
--- behind the last record one value remains
+-- after the last record one value remains
 pub group-ends : (ws : List ℕ) (group at : ℕ) (values : List ℕ) (height : ℕ) → length ws / 4 ≤ at → GroupUnderway ws group at values height → GroupOf (says ws) group values
 unfolding remaining run nodes column heldWords
 group-ends ws group at values height h u k b j l =

@@ -4,3 +4,4 @@ pub mod MaskRuns
 pub mod Pairs
 pub mod Words
 pub mod GroupSteps
+pub mod Examples

@@ -56,10 +56,10 @@ line-more ws i some =
     (le-or-lt (length ws / 4) i)
 
 module _ (ws : List ℕ) (from end : ℕ) (e : end ≡ from + length (leadingLines (recordsFrom ws from))) where
-  pub lines-run : leadingLines (recordsFrom ws from) ≡ masksFrom ws from (end - from)
+  lines-run : leadingLines (recordsFrom ws from) ≡ masksFrom ws from (end - from)
   lines-run = masks-run ws (λ i. leadingLines (recordsFrom ws i)) (line-more ws) from end e
 
-  pub lines-at : from ≤ length ws / 4 → AllSets (leadingLines (recordsFrom ws from)) → MasksAt ws from end
+  lines-at : from ≤ length ws / 4 → AllSets (leadingLines (recordsFrom ws from)) → MasksAt ws from end
   lines-at = masks-at ws (λ i. leadingLines (recordsFrom ws i)) (line-more ws) from end e
 
 -- those of a policy

@@ -43,7 +43,7 @@ unfolding excluded
 no-pair-left ws i h = rw (from-nil ws i h) refl
 
 -- where pairs are left, one stands here
-pub pair-left : (ws : List ℕ) (i : ℕ) → 0 < length (excluded (recordsFrom ws i)) → (i < length ws / 4) × (getD ws (i * 4) 0 ≡ 5)
+pair-left : (ws : List ℕ) (i : ℕ) → 0 < length (excluded (recordsFrom ws i)) → (i < length ws / 4) × (getD ws (i * 4) 0 ≡ 5)
 pair-left ws i some =
     ⊎-elim
     (λ (l : length ws / 4 ≤ i). absurd (omega (arith, ap length (no-pair-left ws i l))))

@@ -1,6 +1,6 @@
 -- Masks that reach a set: one signal more, and all ten.
 use Prim.Native.Nat.{ℕ, zero, suc, _+_, _*_, _/_, _%_, _^_, _≤_, _<_}
-use mathlib.Core.Bool.{Bool, true, false, not, _&&_, _||_, and-comm}
+use mathlib.Core.Bool.{Bool, true, false, not, _&&_, _||_, and-comm, and-or-distrib-left}
 use mathlib.Core.Path.{_≡_, refl, sym, ap, ap₂, _∙_}
 use native.Mathlib.Nat.{pow-suc}
 use native.Mathlib.Omega.{arith}
@@ -17,10 +17,6 @@ use Rattle.blocks.specs.Blocks.{without}
 use Rattle.blocks.proofs.BlockLaws.{without-zero, without-suc}
 use Rattle.groups.specs.Groups.{reaches, maskReaches}
 
-both-or : (a b c : Bool) → (a && (b || c)) ≡ ((a && b) || (a && c))
-both-or true b c = refl
-both-or false b c = refl
-
 -- ---- one signal more
 
 -- the lowest: a digit lies inside another where it is the same, or zero
@@ -32,7 +28,7 @@ reach-lowest a b =
     ap₂ (λ (s t : Bool). (not s || t) && eqb (a / 2) (b / 2)) (present-zero a) (present-zero b)
     ∙ ap (λ (t : Bool). t && eqb (a / 2) (b / 2)) (lowest-digit (a % 2) (b % 2) (omega arith) (omega arith))
     ∙ and-comm (eqb (a % 2) (b % 2) || eqb (a % 2) 0) (eqb (a / 2) (b / 2))
-    ∙ both-or (eqb (a / 2) (b / 2)) (eqb (a % 2) (b % 2)) (eqb (a % 2) 0)
+    ∙ and-or-distrib-left (eqb (a / 2) (b / 2)) (eqb (a % 2) (b % 2)) (eqb (a % 2) 0)
     ∙ ap₂ (λ (s t : Bool). s || t) (whole (b % 2) (omega arith) ∙ ap (eqb a) (split b)) (whole 0 (omega arith) ∙ ap (eqb a) (even b ∙ sym (without-zero b)))
   where
     split : (n : ℕ) → n / 2 * 2 + n % 2 ≡ n
@@ -51,7 +47,7 @@ unfolding reaches
 reach-more zero a b = reach-lowest a b
 reach-more (suc s) a b =
     ap (λ (t : Bool). (not (present a 0) || present b 0) && t) (reach-more s (a / 2) (b / 2))
-    ∙ both-or (not (present a 0) || present b 0) (reaches s (a / 2) (b / 2)) (reaches s (a / 2) (without s (b / 2)))
+    ∙ and-or-distrib-left (not (present a 0) || present b 0) (reaches s (a / 2) (b / 2)) (reaches s (a / 2) (without s (b / 2)))
     ∙ ap (λ (t : Bool). ((not (present a 0) || present b 0) && reaches s (a / 2) (b / 2)) || t)
     (ap₂ (λ (t : Bool) (n : ℕ). (not (present a 0) || t) && reaches s (a / 2) n) (sym kept) (sym half))
   where
@@ -79,7 +75,7 @@ pub mask-more : (s group x mask : ℕ) → maskReaches (suc s) group x mask ≡ 
 unfolding maskReaches
 mask-more s group x mask =
     ap (λ (t : Bool). inside (mask / 1024) group && t) (reach-more s (mask % 1024) x)
-    ∙ both-or (inside (mask / 1024) group) (reaches s (mask % 1024) x) (reaches s (mask % 1024) (without s x))
+    ∙ and-or-distrib-left (inside (mask / 1024) group) (reaches s (mask % 1024) x) (reaches s (mask % 1024) (without s x))
 
 -- spread over ten signals it is at each set that it lies inside
 pub mask-inside : (group x mask : ℕ) → mask ≤ 65535 → group ≤ 63 → x < 1024 → maskReaches 10 group x mask ≡ inside mask (1024 * group + x)

@@ -1,4 +1,4 @@
--- Masks in a table: put in at their own sets, and spread from signal to signal.
+-- Masks in a table: put in as sets of the group, and spread from signal to signal.
 use Prim.Native.Nat.{ℕ, zero, suc, _+_, _-_, _*_, _/_, _%_, _^_, _≤_, _<_}
 use mathlib.Core.Bool.{Bool, true, false, cond, _&&_, _||_, and-true, and-false, or-assoc, or-false, or-self}
 use mathlib.Core.List.{List, [], _∷_, _++_}
@@ -227,33 +227,36 @@ pub record Gathering (ws : List ℕ) (from end group : ℕ) (table left : List �
 pub gathered-none : (ws : List ℕ) (from end group : ℕ) (table : List ℕ) → length table ≡ 16 → MasksAt ws from end → Gathering ws from end group table table from
 gathered-none ws from end group table room m = record { more = m; room = room; same = λ x h. refl }
 
+-- a record is left
+module _ {ws : List ℕ} {end i : ℕ} (m : MasksAt ws i end) (some : i < end) where
+  first-mask : masksFrom ws i (end - i) ≡ lineAt ws i ∷ masksFrom ws (i + 1) (end - (i + 1))
+  unfolding masksFrom
+  first-mask = ap (masksFrom ws i) one-more
+    where
+      one-more : end - i ≡ suc (end - (i + 1))
+      one-more = omega arith
+
+  pub mask-within : i < length ws / 4
+  mask-within = omega (arith, m .within)
+
+  pub mask-set : lineAt ws i ≤ 65535
+  mask-set = subst AllSets first-mask (m .sets) .0
+
+  masks-after : MasksAt ws (i + 1) end
+  masks-after = record { ordered = omega arith; within = m .within; sets = subst AllSets first-mask (m .sets) .1 }
+
 module _ {ws : List ℕ} {from end group : ℕ} {table left : List ℕ} {i : ℕ} (g : Gathering ws from end group table left i) where
-  -- a record is left
-  module _ (some : i < end) where
-    first-mask : masksFrom ws i (end - i) ≡ lineAt ws i ∷ masksFrom ws (i + 1) (end - (i + 1))
-    unfolding masksFrom
-    first-mask = ap (masksFrom ws i) one-more
-      where
-        one-more : end - i ≡ suc (end - (i + 1))
-        one-more = omega arith
-
-    pub mask-within : i < length ws / 4
-    mask-within = omega (arith, g .more .within)
-
-    pub mask-set : lineAt ws i ≤ 65535
-    mask-set = subst AllSets first-mask (g .more .sets) .0
-
-    pub gathered-more : (next : List ℕ) → Added (lineAt ws i) group left next → Gathering ws from end group table next (i + 1)
-    gathered-more next a =
-        record {
-          more = record { ordered = omega arith; within = g .more .within; sets = subst AllSets first-mask (g .more .sets) .1 };
-          room = a .room;
-          same = λ x h.
-              ap (λ (t : Bool). t || any (maskReaches 0 group x) (masksFrom ws (i + 1) (end - (i + 1)))) (a .told x h)
-              ∙ or-assoc (tells left x) (maskReaches 0 group x (lineAt ws i)) (any (maskReaches 0 group x) (masksFrom ws (i + 1) (end - (i + 1))))
-              ∙ ap (λ (ms : List ℕ). tells left x || any (maskReaches 0 group x) ms) (sym first-mask)
-              ∙ g .same x h;
-        }
+  pub gathered-more : i < end → (next : List ℕ) → Added (lineAt ws i) group left next → Gathering ws from end group table next (i + 1)
+  gathered-more some next a =
+      record {
+        more = masks-after (g .more) some;
+        room = a .room;
+        same = λ x h.
+            ap (λ (t : Bool). t || any (maskReaches 0 group x) (masksFrom ws (i + 1) (end - (i + 1)))) (a .told x h)
+            ∙ or-assoc (tells left x) (maskReaches 0 group x (lineAt ws i)) (any (maskReaches 0 group x) (masksFrom ws (i + 1) (end - (i + 1))))
+            ∙ ap (λ (ms : List ℕ). tells left x || any (maskReaches 0 group x) ms) (sym (first-mask (g .more) some))
+            ∙ g .same x h;
+      }
 
   -- none is left
   pub gathered-all : end ≤ i → Gathered ws from end group table left
@@ -272,8 +275,7 @@ module _ {ws : List ℕ} {from end group : ℕ} {table left : List ℕ} {i : ℕ
 
 -- by the place of the mask's word, as the code has it
 pub mask-small : (ws : List ℕ) (from end : ℕ) → MasksAt ws from end → (place : ℕ) → place % 4 ≡ 1 → from ≤ place / 4 → place / 4 < end → getD ws place 0 ≤ 65535
-unfolding masksFrom
-mask-small ws from end m place e l h = subst (λ (x : ℕ). getD ws x 0 ≤ 65535) (back place e) (mask-set (gathered-none ws (place / 4) end 0 (replicate 16 0) refl (masks-rest ws from (place / 4) end l (omega arith) m)) h)
+mask-small ws from end m place e l h = subst (λ (x : ℕ). getD ws x 0 ≤ 65535) (back place e) (mask-set (masks-rest ws from (place / 4) end l (omega arith) m) h)
   where
     back : (x : ℕ) → x % 4 ≡ 1 → x / 4 * 4 + 1 ≡ x
     back x r = omega arith

@@ -2,6 +2,7 @@
 use Prim.Native.Nat.{ℕ, _+_, _-_, _*_, _/_, _%_, _^_, _≤_, _<_}
 use mathlib.Core.Bool.{Bool, true, false, not, cond, _&&_, _||_, Bool·beq, and-false}
 use mathlib.Core.List.{List}
+use mathlib.Core.Logic.{⊎-elim}
 use mathlib.Core.Path.{_≡_, refl, sym, ap, ap₂, _∙_}
 use native.Mathlib.Nat.{add-zero}
 use native.Mathlib.Omega.{arith}
@@ -9,10 +10,12 @@ use lib.Bits.{bitAnd, bitOr, bitXor, and-block, and-zero-l, and-zero-r}
 use lib.Bits as bits
 use lib.Dec.{eqb}
 use lib.ListN.{getD}
-use borrow.Author.Tests.{ne-eqb}
+use borrow.Author.Tests.{eqb-true, eq-eqb, ne-eqb}
 use Rattle.arith.specs.Tables.{Written}
 use Rattle.arith.proofs.Digits.{digits}
+use Rattle.arith.proofs.Tests.{clash, or-cases}
 use Rattle.signals.specs.Sets.{present, overlap}
+use Rattle.signals.proofs.SetLaws.{overlap-and}
 use Rattle.signals.proofs.BitLaws.{present-and, present-or, present-xor, present-not}
 use Rattle.blocks.specs.Blocks.{WordOf, BlockOf}
 use Rattle.blocks.proofs.BlockLaws.{shares}
@@ -112,13 +115,13 @@ module _ (mask group : ℕ) (small : mask ≤ 65535) (within : group ≤ 63) whe
       ap (λ (x : ℕ). overlap mask (64 * x + j)) (sym (add-zero (16 * group))) ∙ by-parts 0 (omega arith) j h
       ∙ ap (λ (x : ℕ). not (eqb (bitAnd (mask % 64) j) 0 && (eqb x 0 && eqb (bitAnd (mask / 1024) group) 0))) (and-zero-r (mask / 64 % 16))
 
-  pub even-low : mask / 64 % 16 ≡ 0 → EvenOverlap mask group
+  even-low : mask / 64 % 16 ≡ 0 → EvenOverlap mask group
   even-low e k b j h =
       by-parts k b j h
       ∙ ap (λ (x : ℕ). not (eqb (bitAnd (mask % 64) j) 0 && (eqb x 0 && eqb (bitAnd (mask / 1024) group) 0))) (ap (λ (x : ℕ). bitAnd x k) e ∙ and-zero-l k)
       ∙ sym (first-block j h)
 
-  pub even-high : (bitAnd (mask / 1024) group ≡ 0 → ⊥) → EvenOverlap mask group
+  even-high : (bitAnd (mask / 1024) group ≡ 0 → ⊥) → EvenOverlap mask group
   even-high n k b j h =
       by-parts k b j h
       ∙ ap (λ (t : Bool). not (eqb (bitAnd (mask % 64) j) 0 && (eqb (bitAnd (mask / 64 % 16) k) 0 && t))) other
@@ -127,3 +130,10 @@ module _ (mask group : ℕ) (small : mask ≤ 65535) (within : group ≤ 63) whe
     where
       other : eqb (bitAnd (mask / 1024) group) 0 ≡ false
       other = ne-eqb (bitAnd (mask / 1024) group) 0 n
+
+  -- by the code's test
+  pub even-by : (b : Bool) → b ≡ (eqb (mask / 64 % 16) 0 || overlap (mask / 1024) group) → b ≡ true → EvenOverlap mask group
+  even-by b e t =
+      ⊎-elim (λ h. even-low (eqb-true (mask / 64 % 16) 0 h))
+      (λ h. even-high (λ z. clash h (overlap-and (mask / 1024) group (omega arith) ∙ ap not (eq-eqb (bitAnd (mask / 1024) group) 0 z))))
+      (or-cases (eqb (mask / 64 % 16) 0) (overlap (mask / 1024) group) (sym e ∙ t))

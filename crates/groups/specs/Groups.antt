@@ -48,30 +48,30 @@ unfoldable pub reaches : ℕ → ℕ → ℕ → Bool
 reaches zero a b = eqb a b
 reaches (suc n) a b = (not (present a 0) || present b 0) && reaches n (a / 2) (b / 2)
 
--- the mask's six highest signals are all the group's, and the others reach set x
+-- the group has the mask's six highest signals, and the mask's ten lowest reach set x below signal n
 unfoldable pub maskReaches : ℕ → ℕ → ℕ → ℕ → Bool
 maskReaches n group x mask = inside (mask / 1024) group && reaches n (mask % 1024) x
 
--- a table tells of each set whether some mask reaches it
+-- a table tells of each set whether some mask reaches it below signal n
 pub record Reached (n : ℕ) (masks : List ℕ) (group : ℕ) (table : List ℕ) : Type 0 where
   pub room : length table ≡ 16
   pub told : (x : ℕ) → x < 1024 → tells table x ≡ any (maskReaches n group x) masks
 
--- a mask is added to a table, at its own set
+-- a mask is added to a table, at the group's set with just its ten lowest signals, if the group has its six highest
 pub record Added (mask group : ℕ) (table left : List ℕ) : Type 0 where
   pub room : length left ≡ 16
   pub told : (x : ℕ) → x < 1024 → tells left x ≡ (tells table x || maskReaches 0 group x mask)
 
--- the masks of the records from one index up to another are added to a table, each at its own set
+-- the masks of the records from one index up to another are added to a table, each so
 pub record Gathered (ws : List ℕ) (from end group : ℕ) (table left : List ℕ) : Type 0 where
   pub room : length left ≡ 16
   pub told : (x : ℕ) → x < 1024 → tells left x ≡ (tells table x || any (maskReaches 0 group x) (masksFrom ws from (end - from)))
 
--- each set of a table that has the signal gets what is told of the set without it
+-- each set of a table that has the signal also gets what is told of the set without it
 pub record Spread (signal : ℕ) (table left : List ℕ) : Type 0 where
   pub room : length left ≡ 16
   pub told : (x : ℕ) → x < 1024 → tells left x ≡ (tells table x || tells table (without signal x))
 
--- and so for all ten signals
+-- where the table tells of each set whether it was some mask's, the one left tells whether a mask reaches it below signal 10
 abbrev pub AllSpread : List ℕ → List ℕ → Type 0
 AllSpread table left = (masks : List ℕ) (group : ℕ) → Reached 0 masks group table → Reached 10 masks group left

@@ -30,11 +30,11 @@ PolicyPut p group height values left = Written (valueWord height) (PolicyWord p 
 abbrev pub Said : List ℕ → ℕ → Bool → Bool → ℕ → ℕ → List ℕ → List ℕ → Type 0
 Said ws at quiet turned group height values left = PolicyPut (policyAt ws at quiet turned) group height values left
 
--- what a policy says of set j of a block, by the words of its overlap and of its lines; the last two are all sets or none
+-- bit j of a policy's word, by the words of its overlap and of the lines inside, and by two that are all sets or none, for turned and for quiet
 abbrev pub policyBit : ℕ → ℕ → ℕ → ℕ → ℕ → Bool
 policyBit over found turn still j = cond (present over j) (not (Bool·beq (present found j) (present turn j))) (present still j)
 
--- the mask shares a signal with a set of any block of the group where it does with that of the first block
+-- in every block of the group the mask overlaps the same sets as in the first
 abbrev pub EvenOverlap : ℕ → ℕ → Type 0
 EvenOverlap mask group = (k : ℕ) → k < 16 → (j : ℕ) → j < 64 → overlap mask (64 * (16 * group + k) + j) ≡ overlap mask (64 * (16 * group) + j)
 

@@ -1,15 +1,16 @@
 // What a sound listing says of 1,024 sets at once. A group is 16 blocks, the sets from 1024 * group on, and a table has a word
 // for each block. The functions are for the crates above, and allocate nothing.
-ghost use mathlib.Core.Bool.{true};
+ghost use mathlib.Core.Bool.{_||_};
 ghost use mathlib.Core.Path.{_≡_};
 ghost use Prim.Native.Nat.{_-_, _/_, _%_, _≤_, _<_};
+ghost use lib.Dec.{eqb};
 ghost use lib.ListN.{length};
 ghost use Rattle.signals.specs.Sets.{present, inside, overlap};
 ghost use Rattle.blocks.specs.Blocks.{WordOf};
 ghost use Rattle.rod.specs.Reading.{someLine, joined, says};
 ghost use Rattle.rod.specs.Values.{joinMeaning, nodeEnd};
 ghost use Rattle.groups.specs.Groups.{GroupOf, masksFrom, MasksAt, pairCount, SoundWith, Added, Gathered, Spread, AllSpread};
-ghost use Rattle.groups.specs.Values.{policyBit, EvenOverlap, EvenPut, BlocksPut, Said, JoinPut, PolicyHere, GroupUnderway};
+ghost use Rattle.groups.specs.Values.{policyBit, EvenPut, BlocksPut, Said, JoinPut, PolicyHere, GroupUnderway};
 
 // How many excluded pairs the listing begins with.
 pub fn pair_count(words: &[u32]) -> usize
@@ -33,7 +34,7 @@ fn is_within(mask: u32, group: u32) -> bool
     mask & (63 - group) * 1024 == 0
 }
 
-// The mask's own set is put into the table, if it is one of the group's.
+// If the group has the mask's six highest signals, its set with just the mask's ten lowest is put into the table.
 fn add_mask(table: &mut [u64; 16], mask: u32, group: u32)
     requires { ⌜ (length (now table) ≡ 16) × (mask ≤ 65535) × (group ≤ 63) ⌝ }
     ensures { λ _. ⌜ Added mask group (now (table .entry)) (now (table .exit)) ⌝ }
@@ -50,17 +51,17 @@ fn gather_fours(words: &[u32], from: usize, end: usize, group: u32, table: &mut 
     requires { ⌜ (length (now table) ≡ 16) × (group ≤ 63) × MasksAt (now words) from end × ((end - from) % 4 ≡ 0) ⌝ }
     ensures { λ _. ⌜ Gathered (now (words .entry)) from end group (now (table .entry)) (now (table .exit)) ⌝ }
 {
-    let mut at = from * 4;
-    while at < end * 4 {
-        add_mask(table, words[at + 1], group);
-        add_mask(table, words[at + 5], group);
-        add_mask(table, words[at + 9], group);
-        add_mask(table, words[at + 13], group);
-        at += 16;
+    let mut place = from * 4;
+    while place < end * 4 {
+        add_mask(table, words[place + 1], group);
+        add_mask(table, words[place + 5], group);
+        add_mask(table, words[place + 9], group);
+        add_mask(table, words[place + 13], group);
+        place += 16;
     }
 }
 
-// The same, one at a turn.
+// The masks of the records from index `from` up to `end` are put into the table, one at a turn.
 fn gather_rest(words: &[u32], from: usize, end: usize, group: u32, table: &mut [u64; 16])
     requires { ⌜ (length (now table) ≡ 16) × (group ≤ 63) × MasksAt (now words) from end ⌝ }
     ensures { λ _. ⌜ Gathered (now (words .entry)) from end group (now (table .entry)) (now (table .exit)) ⌝ }
@@ -77,9 +78,9 @@ pub fn gather(words: &[u32], from: usize, end: usize, group: u32, table: &mut [u
     requires { ⌜ (length (now table) ≡ 16) × (group ≤ 63) × MasksAt (now words) from end ⌝ }
     ensures { λ _. ⌜ Gathered (now (words .entry)) from end group (now (table .entry)) (now (table .exit)) ⌝ }
 {
-    let last = end - (end - from) % 4;
-    gather_fours(words, from, last, group, table);
-    gather_rest(words, last, end, group, table);
+    let rest = end - (end - from) % 4;
+    gather_fours(words, from, rest, group, table);
+    gather_rest(words, rest, end, group, table);
 }
 
 // One of the six lowest signals is spread: within each word.
@@ -124,7 +125,7 @@ pub fn spread(table: &mut [u64; 16])
     spread_high(table, 9);
 }
 
-// The sets of the group inside which some line lies wholly, of the records from index `from` up to `end`.
+// The sets of the group inside which a line lies, of the lines from index `from` up to `end`.
 fn lines_inside(words: &[u32], from: usize, end: usize, group: u32) -> [u64; 16]
     requires { ⌜ (group ≤ 63) × MasksAt (now words) from end ⌝ }
     ensures { λ r. ⌜ GroupOf (someLine (masksFrom (now (words .entry)) from (end - from))) group r ⌝ }
@@ -138,42 +139,42 @@ fn lines_inside(words: &[u32], from: usize, end: usize, group: u32) -> [u64; 16]
     table
 }
 
-// What a policy says, from where its mask overlaps and where some line lies inside. `turn` is every set where it is turned,
-// `still` where it is quiet.
-fn policy_word(overlap: u64, found: u64, turn: u64, still: u64) -> u64
-    ensures { λ r. ⌜ WordOf (policyBit overlap found turn still) r ⌝ }
+// What a policy says, from the sets that share a signal with its mask and those inside which a line lies. `turn` is every set
+// if it is turned, `still` if it is quiet.
+fn policy_word(shared: u64, found: u64, turn: u64, still: u64) -> u64
+    ensures { λ r. ⌜ WordOf (policyBit shared found turn still) r ⌝ }
 {
-    (found ^ turn) & overlap | still & !overlap
+    (found ^ turn) & shared | still & !shared
 }
 
-// The mask overlaps every block of the group alike.
+// The mask overlaps every block of the group alike: it has none of their own signals, or one of the group's.
 fn is_even(mask: u32, group: u32) -> bool
-    requires { ⌜ (mask ≤ 65535) × (group ≤ 63) ⌝ }
-    ensures { λ r. ⌜ (r ≡ true → EvenOverlap mask group) ⌝ }
+    requires { ⌜ group ≤ 63 ⌝ }
+    ensures { λ r. ⌜ r ≡ (eqb (mask / 64 % 16) 0 || overlap (mask / 1024) group) ⌝ }
 {
     mask / 64 % 16 == 0 || mask / 1024 & group != 0
 }
 
-// The policy's words, if its mask overlaps every block alike.
+// The policy's words, each by one and the same word of its overlap.
 fn put_even(
     values: &mut [u64; 256],
     height: usize,
     found: [u64; 16],
-    overlap: u64,
+    shared: u64,
     turn: u64,
     still: u64,
 )
     requires { ⌜ (length (now values) ≡ 256) × (height < 16) ⌝ }
-    ensures { λ _. ⌜ EvenPut overlap found turn still height (now (values .entry)) (now (values .exit)) ⌝ }
+    ensures { λ _. ⌜ EvenPut shared found turn still height (now (values .entry)) (now (values .exit)) ⌝ }
 {
     let mut k: usize = 0;
     while k < 16 {
-        values[height * 16 + k] = policy_word(overlap, found[k], turn, still);
+        values[height * 16 + k] = policy_word(shared, found[k], turn, still);
         k += 1;
     }
 }
 
-// The policy's words, from where its mask shares one of the six lowest signals.
+// The policy's words, each by its own block's overlap; `low` has the sets that share one of the six lowest signals.
 fn put_blocks(
     values: &mut [u64; 256],
     height: usize,
@@ -190,13 +191,13 @@ fn put_blocks(
 {
     let mut k: usize = 0;
     while k < 16 {
-        let overlap = blocks::block_overlap(mask, low, 16 * group + k as u32);
-        values[height * 16 + k] = policy_word(overlap, found[k], turn, still);
+        let shared = blocks::block_overlap(mask, low, 16 * group + k as u32);
+        values[height * 16 + k] = policy_word(shared, found[k], turn, still);
         k += 1;
     }
 }
 
-// Values are kept as tables. The policy at index `at`, whose lines end before index `end`, puts one at this height.
+// Values are kept as tables. What the policy at index `at` says, whose lines end before index `end`, is put at this height.
 fn put_policy(
     words: &[u32],
     at: usize,
@@ -208,15 +209,17 @@ fn put_policy(
     height: usize,
 )
     requires { ⌜ (length (now values) ≡ 256) × (height < 16) × (group ≤ 63) × PolicyHere (now words) at end ⌝ }
-    ensures { λ _. ⌜ Said (now (words .entry)) at quiet turned group height (now (values .entry)) (now (values .exit)) ⌝ }
+    ensures { λ _. ⌜ Said (now (words .entry)) at quiet turned group height
+        (now (values .entry)) (now (values .exit)) ⌝ }
 {
     let mask = words[at * 4 + 1];
     let found = lines_inside(words, at + 1, end, group);
     let low = blocks::low_overlap(mask % 64);
     let turn = blocks::all_if(turned);
     let still = blocks::all_if(quiet);
-    let overlap = blocks::block_overlap(mask, low, 16 * group);
-    put_even(values, height, found, overlap, turn, still);
+    let shared = blocks::block_overlap(mask, low, 16 * group);
+    // Put so in any case, and again where it is not even: faster than to choose (docs/DECISIONS.md, D37).
+    put_even(values, height, found, shared, turn, still);
     if is_even(mask, group) {
         return;
     }
@@ -224,10 +227,10 @@ fn put_policy(
 }
 
 // Two values joined, of each set of a block.
-fn join_words(a: u64, b: u64, or: bool) -> u64
-    ensures { λ r. ⌜ WordOf (λ j. joined (joinMeaning or) (present a j) (present b j)) r ⌝ }
+fn join_words(first: u64, second: u64, or: bool) -> u64
+    ensures { λ r. ⌜ WordOf (λ j. joined (joinMeaning or) (present first j) (present second j)) r ⌝ }
 {
-    if or { a | b } else { a & b }
+    if or { first | second } else { first & second }
 }
 
 // The last two values joined into one.

@@ -73,7 +73,7 @@ module _ (ws : List ℕ) (at : ℕ) (lt : at < length ws / 4) (node : NodeAt ws 
   unfolding nodeEnd
   nodes-after = ap nodes (from-behind ws (at + 1)) ∙ behind-nodes rest
 
-  -- it is taken first, and then the nodes behind it
+  -- it is taken first, and then the nodes after it
   pub taken-here : (set : ℕ) (stack : List Bool) (k : Kind) → k ≡ kindOf (getD ws (at * 4) 0)
       → remaining (run joined (policyValue set) (nodeThen k (getD ws (at * 4 + 1) 0) (leadingLines rest) (nodes (recordsFrom ws (nodeEnd ws at)))) stack)
       ≡ remaining (run joined (policyValue set) (nodes (recordsFrom ws at)) stack)

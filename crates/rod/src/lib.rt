@@ -1,5 +1,5 @@
 // The rod: what a listing says of a signal set. It knows the listing part and nothing of books.
-// `decide` is for every caller; `reading` is for the crates above.
+// `decide` is for every caller; `reading` and `next_index` are for the crates above.
 ghost use mathlib.Core.Bool.{Bool};
 ghost use mathlib.Core.List.{List, _∷_};
 ghost use mathlib.Core.Path.{_≡_};

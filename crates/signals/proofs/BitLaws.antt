@@ -67,7 +67,7 @@ present-all k j h = ap (λ (x : ℕ). present x j) (whole (2 ^ k)) ∙ present-n
     whole : (n : ℕ) → n - 1 ≡ n - 1 - 0
     whole n = omega arith
 
--- the bits of the k lowest, and of the others
+-- the k lowest bits are those of the remainder, the others those of the quotient
 pub present-low : (k a j : ℕ) → j < k → present (a % 2 ^ k) j ≡ present a j
 unfolding present
 present-low k a j h = ap (λ (x : ℕ). eqb x 1) (go (k - j - 1) (omega arith))

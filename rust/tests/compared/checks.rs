@@ -83,3 +83,57 @@ fn answers_of_the_last_set() {
     assert_eq!(agreed::compare(&only_last(16), &never), differ(Listing::First));
     assert_eq!(agreed::compare(&never, &only_last(16)), differ(Listing::Second));
 }
+
+/// A listing of one policy over all signals, with these lines.
+fn policy_of(kind: u32, lines: &[u32]) -> Vec<u32> {
+    let mut words = vec![kind, 0xffff, 2, 0];
+    for (place, &line) in lines.iter().enumerate() {
+        let next = if place + 1 < lines.len() { place as u32 + 3 } else { 0 };
+        words.extend([4, line, 0, next]);
+    }
+    words
+}
+
+/// The lowest set that holds a line is that line: for every set, so at each end of every block and group too.
+#[test]
+fn every_set_as_the_lowest() {
+    let never = [16, 0xffff, 0, 0];
+    for set in 1..=u16::MAX {
+        let (holding, turned) = (policy_of(16, &[set.into()]), policy_of(19, &[set.into()]));
+        assert_eq!(cerahupo::choice(&holding), Ok(Choice::Both { yes: set, no: 0 }));
+        assert_eq!(cerahupo::choice(&turned), Ok(Choice::Both { yes: 0, no: set }));
+        let differ = |yes| Ok(Comparison::Differ { set, yes });
+        assert_eq!(cerahupo::compare(&holding, &never), differ(Listing::First));
+        assert_eq!(cerahupo::compare(&never, &holding), differ(Listing::Second));
+    }
+}
+
+/// Among up to nine lines, the one that decides stands at every place.
+#[test]
+fn a_line_at_every_place() {
+    for set in [1, 0x20, 0x3f, 0x40, 0x41, 0x200, 0x3ff, 0x400, 0x401, 0x8000, 0x8421, 0xfffe] {
+        for count in 1..=9 {
+            for place in 0..count {
+                let mut lines = vec![0xffff; count];
+                lines[place] = set;
+                assert_eq!(agreed::choice(&policy_of(16, &lines)), Ok(Choice::Both { yes: set as u16, no: 0 }));
+            }
+        }
+    }
+}
+
+/// A pair bars every set that holds it, whichever two signals it has, so a line of both is never met.
+#[test]
+fn every_pair_bars() {
+    for first in 0..16 {
+        for second in 0..first {
+            let pair = 1 << first | 1 << second;
+            let mut words = vec![5, pair, 0, 2];
+            words.extend(policy_of(16, &[pair]).chunks(4).flat_map(|record| {
+                let moved = |number: u32| if number == 0 { 0 } else { number + 1 };
+                [record[0], record[1], moved(record[2]), moved(record[3])]
+            }));
+            assert_eq!(agreed::choice(&words), Ok(Choice::Never));
+        }
+    }
+}

@@ -1,4 +1,4 @@
--- `checks::wanted_in`: the lowest set from this block on is the lowest of the group.
+-- `checks::wanted_in`: the lowest set from this block on is the lowest from the group on.
 use Prim.Native.Nat.{_+_, _-_, _*_, _≤_}
 use mathlib.Core.Path.{_≡_, _∙_}
 use native.Mathlib.Omega.{arith}

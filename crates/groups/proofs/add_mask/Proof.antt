@@ -1,4 +1,4 @@
--- `groups::add_mask`: at its own set, by block and bit, or nowhere.
+-- `groups::add_mask`: at one set, by block and bit, or nowhere.
 use Prim.Native.Nat.{_%_, _^_}
 use mathlib.Core.Bool.{Bool, cond}
 use mathlib.Core.Path.{sym, ap, _∙_}

@@ -5,11 +5,11 @@ use Rattle.groups.proofs.TableLaws.{masks-front, masks-rest, gathered-b
 use Rattle.groups.proofs.gather.Statement.{statement}
 use Rattle.groups.proofs.gather.Tie as tie
 
-sub-last : tie.Need-sub-last
-sub-last c = search needs
+sub-rest : tie.Need-sub-rest
+sub-rest c = search needs
 
-sub-last-2 : tie.Need-sub-last-2
-sub-last-2 c = search needs
+sub-rest-2 : tie.Need-sub-rest-2
+sub-rest-2 c = search needs
 
 gather-fours-requires : tie.Need-gather-fours-requires
 gather-fours-requires c κs =
@@ -32,4 +32,4 @@ returns c =
 
 pub gather-spec : {M : Type 1} → statement M
 gather-spec =
-    tie.close (tie.spec sub-last sub-last-2 gather-fours-requires gather-rest-requires returns)
+    tie.close (tie.spec sub-rest sub-rest-2 gather-fours-requires gather-rest-requires returns)

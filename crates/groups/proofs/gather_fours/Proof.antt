@@ -9,21 +9,21 @@ use Rattle.groups.proofs.gather_fours.Statement.{statement}
 use Rattle.groups.proofs.gather_fours.Tie as tie
 
 abbrev Inv-loop : tie.InvT-loop
-Inv-loop words from end group table₀ at₀ table at =
-    (at % 4 ≡ 0) × (at ≤ end * 4) × ((end * 4 - at) % 16 ≡ 0) × Gathering words from end group table₀ table (at / 4)
+Inv-loop words from end group table₀ place₀ table place =
+    (place % 4 ≡ 0) × (place ≤ end * 4) × ((end * 4 - place) % 16 ≡ 0) × Gathering words from end group table₀ table (place / 4)
 
 abbrev μ-loop : tie.MeasureT-loop
-μ-loop words from end group table₀ at₀ table at = end * 4 - at
+μ-loop words from end group table₀ place₀ table place = end * 4 - place
 
 whole : (n : ℕ) → n ≡ n * 4 / 4
 whole n = omega arith
 
 -- four records are left, within the words
-room : (c : tie.In-loop Inv-loop μ-loop) → let at = c .before .loop .at in let s = c .before .before .before in (at + 16 ≤ s .args .end * 4) × (s .args .end ≤ length (now (s .args .words)) / 4)
+room : (c : tie.In-loop Inv-loop μ-loop) → let place = c .before .loop .place in let s = c .before .before .before in (place + 16 ≤ s .args .end * 4) × (s .args .end ≤ length (now (s .args .words)) / 4)
 room c = let i = c .before .loop .inv in (omega (arith, i .2, c .loop-test .taken), i .3 .more .within)
 
-mul-at : tie.Need-mul-at Inv-loop μ-loop
-mul-at c = let p = c .before .pre in omega (arith, p .2 .ordered, p .2 .within)
+mul-place : tie.Need-mul-place Inv-loop μ-loop
+mul-place c = let p = c .before .pre in omega (arith, p .2 .ordered, p .2 .within)
 
 loop-holds : tie.Need-loop-holds Inv-loop μ-loop
 loop-holds c =
@@ -93,8 +93,8 @@ add-mask-requires-4 c κs =
     let p = t .before .before .before .pre in
     (c .before .before .add-mask3 .ensures .room, mask-small _ _ _ (t .before .loop .inv .3 .more) _ (omega (arith, t .before .loop .inv .0)) (omega arith) (omega (arith, room t)), p .1)
 
-add-at : tie.Need-add-at Inv-loop μ-loop
-add-at c = omega (arith, room (c .before .before .before .before .before .before .before .before .before .before .before .before))
+add-place : tie.Need-add-place Inv-loop μ-loop
+add-place c = omega (arith, room (c .before .before .before .before .before .before .before .before .before .before .before .before))
 
 loop-less : tie.Need-loop-less Inv-loop μ-loop
 loop-less c = omega (arith, room (c .before .before .before .before .before .before .before .before .before .before .before .before))
@@ -128,7 +128,7 @@ gather-fours-spec =
     (tie.spec
     Inv-loop
     μ-loop
-    mul-at
+    mul-place
     loop-holds
     mul-loop
     add-add-mask
@@ -147,7 +147,7 @@ gather-fours-spec =
     mul-add-mask-4
     shared-slice-read-add-mask-4
     add-mask-requires-4
-    add-at
+    add-place
     loop-less
     loop-again
     returns)

@@ -19,7 +19,7 @@ loop-holds c = let p = c .before .pre in gathered-none _ _ _ _ _ (p .0) (p .2)
 
 -- the record at hand
 here : (c : tie.In-loop Inv-loop μ-loop) → c .before .loop .i < length (now (c .before .before .before .args .words)) / 4
-here c = mask-within (c .before .loop .inv) (c .loop-test .taken)
+here c = mask-within (c .before .loop .inv .more) (c .loop-test .taken)
 
 mul-add-mask : tie.Need-mul-add-mask Inv-loop μ-loop
 mul-add-mask c = omega (arith, here (c .before))
@@ -34,7 +34,7 @@ shared-slice-read-add-mask : tie.Need-shared-slice-read-add-mask Inv-loop μ-loo
 shared-slice-read-add-mask c = omega (arith, here (c .before .before))
 
 add-mask-requires : tie.Need-add-mask-requires Inv-loop μ-loop
-add-mask-requires c κs = let t = c .before .before in let g = t .before .loop .inv in (g .room, mask-set g (t .loop-test .taken), t .before .before .before .pre .1)
+add-mask-requires c κs = let t = c .before .before in let g = t .before .loop .inv in (g .room, mask-set (g .more) (t .loop-test .taken), t .before .before .before .pre .1)
 
 add-i : tie.Need-add-i Inv-loop μ-loop
 add-i c = search needs

@@ -1,16 +1,24 @@
 -- `groups::is_even`: each return by the test that led there.
-use mathlib.Core.Bool.{not, true≢false}
+use Prim.Native.Nat.{_/_, _%_}
+use mathlib.Core.Bool.{Bool, _||_}
 use mathlib.Core.Path.{sym, ap, _∙_}
-use borrow.Author.Tests.{eq-eqb}
-use Rattle.groups.proofs.Words.{even-low, even-high}
+use native.Mathlib.Omega.{arith}
+use borrow.Author.Tests.{eq-eqb, ne-eqb}
+use Rattle.signals.specs.Sets.{overlap}
+use Rattle.signals.proofs.SetLaws.{overlap-and}
 use Rattle.groups.proofs.is_even.Statement.{statement}
 use Rattle.groups.proofs.is_even.Tie as tie
 
 returns : tie.Need-returns
-returns c = λ e. even-low _ _ (c .before .pre .0) (c .before .pre .1) (c .if1 .taken)
+returns c =
+    let s = c .before .args in
+    let e = eq-eqb (s .mask / 64 % 16) 0 (c .if1 .taken) in
+    e ∙ sym (ap (λ (t : Bool). t || overlap (s .mask / 1024) (s .group)) e)
 
 returns-2 : tie.Need-returns-2
-returns-2 c = λ e. even-high _ _ (c .before .pre .0) (c .before .pre .1) (λ z. true≢false (sym e ∙ ap not (eq-eqb _ 0 z)))
+returns-2 c =
+    let s = c .before .args in
+    sym (ap (λ (t : Bool). t || overlap (s .mask / 1024) (s .group)) (ne-eqb (s .mask / 64 % 16) 0 (c .if1 .left)) ∙ overlap-and (s .mask / 1024) (s .group) (omega (arith, c .before .pre)))
 
 pub is-even-spec : {M : Type 1} → statement M
 is-even-spec = tie.close (tie.spec returns returns-2)

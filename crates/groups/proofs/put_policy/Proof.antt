@@ -4,7 +4,7 @@ use native.Mathlib.Omega.{arith}
 use borrow.Author.Needs.{needs}
 use Rattle.arith.proofs.Tables.{written-over, written-as}
 use Rattle.groups.proofs.MaskRuns.{policy-masks, policy-found}
-use Rattle.groups.proofs.Words.{even-told, blocks-told}
+use Rattle.groups.proofs.Words.{even-told, even-by, blocks-told}
 use Rattle.rod.specs.Reading.{someLine}
 use Rattle.rod.specs.Values.{policyAt}
 use Rattle.groups.proofs.put_policy.Statement.{statement}
@@ -63,7 +63,7 @@ returns c =
     written-as _ _ _ _ _ _
     (even-told (policyAt (now (s .args .words)) (s .args .at) (s .args .quiet) (s .args .turned)) (s .args .group) (f .lines-inside .result) _ _
     (policy-found _ _ _ (s .pre .3) someLine _ (f .lines-inside .result) (f .lines-inside .ensures)) (i .before .all-if .ensures) (i .all-if2 .ensures)
-    _ (b .block-overlap .ensures) (e .is-even .ensures (c .if1 .taken))) (v .put-even .ensures)
+    _ (b .block-overlap .ensures) (even-by _ _ (s .pre .3 .set) (s .pre .2) _ (e .is-even .ensures) (c .if1 .taken))) (v .put-even .ensures)
 
 put-blocks-requires : tie.Need-put-blocks-requires
 put-blocks-requires c κs = search needs
