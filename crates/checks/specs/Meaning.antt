@@ -29,12 +29,12 @@ comparisonMeaning (SecondYes set) = differ set second
 comparisonMeaning (FirstDeclined f) = declined first (faultNumber f) (faultValue f)
 comparisonMeaning (SecondDeclined f) = declined second (faultNumber f) (faultValue f)
 
+-- ---- for inner contracts only
+
 -- a lowest set, if there is one
 abbrev pub foundMeaning : Found → Option ℕ
 foundMeaning (At set) = some set
 foundMeaning Nowhere = none
-
--- ---- for inner contracts only
 
 -- what was found, or what is found later
 abbrev pub foundOr : Option ℕ → Option ℕ → Option ℕ

@@ -23,11 +23,11 @@ pub enum Found {
 }
 
 // The sets of the group with an excluded pair of the sound listing, which begins with so many.
-fn group_barred(words: &[u32], pairs: usize, group: u32) -> [u64; 16]
+fn group_barred(words: &[u32], pairs: usize, group: u32) -> groups::Table
     requires { ⌜ SoundWith (now words) pairs × (group ≤ 63) ⌝ }
     ensures { λ r. ⌜ GroupOf (λ set. not (permitted (now (words .entry)) set)) group r ⌝ }
 {
-    let mut table = [0u64; 16];
+    let mut table = [0u64; groups::TABLE_WORDS];
     if pairs == 0 {
         return table;
     }
@@ -57,14 +57,20 @@ fn lowest_in(block: u32, word: u64) -> u16
 
 // The lowest set of the group that has no excluded pair and on which the sound listing gives what is wanted. The values are
 // room to work in: what they hold before and after does not matter.
-fn wanted_in(words: &[u32], pairs: usize, want: bool, group: u32, values: &mut [u64; 256]) -> Found
+fn wanted_in(
+    words: &[u32],
+    pairs: usize,
+    want: bool,
+    group: u32,
+    values: &mut groups::Values,
+) -> Found
     requires { ⌜ SoundWith (now words) pairs × (group ≤ 63) × (length (now values) ≡ 256) ⌝ }
     ensures { λ r. ⌜ FoundIn (gives (now (words .entry)) want) group r × (length (now (values .exit)) ≡ 256) ⌝ }
 {
     let barred = group_barred(words, pairs, group);
     groups::reading(words, pairs, group, values);
     let mut k: usize = 0;
-    while k < 16 {
+    while k < groups::TABLE_WORDS {
         let word = wanted_word(barred[k], values[k], want);
         if word != 0 {
             return Found::At(lowest_in(16 * group + k as u32, word));
@@ -80,7 +86,7 @@ fn lowest_wanted(words: &[u32], want: bool) -> Found
     ensures { λ r. ⌜ foundMeaning r ≡ lowestSet (gives (now (words .entry)) want) ⌝ }
 {
     let pairs = groups::pair_count(words);
-    let mut values = [0u64; 256];
+    let mut values = [0u64; groups::VALUE_WORDS];
     let mut group: u32 = 0;
     while group < GROUPS {
         let f = wanted_in(words, pairs, want, group, &mut values);
@@ -147,8 +153,8 @@ fn difference_in(
     two: &[u32],
     others: usize,
     group: u32,
-    firsts: &mut [u64; 256],
-    seconds: &mut [u64; 256],
+    firsts: &mut groups::Values,
+    seconds: &mut groups::Values,
 ) -> Found
     requires { ⌜ SoundWith (now one) pairs × SoundWith (now two) others × (group ≤ 63) ⌝ }
     requires { ⌜ (length (now firsts) ≡ 256) × (length (now seconds) ≡ 256) ⌝ }
@@ -160,7 +166,7 @@ fn difference_in(
     groups::reading(one, pairs, group, firsts);
     groups::reading(two, others, group, seconds);
     let mut k: usize = 0;
-    while k < 16 {
+    while k < groups::TABLE_WORDS {
         let word = apart_word(barred[k], also[k], firsts[k], seconds[k]);
         if word != 0 {
             return Found::At(lowest_in(16 * group + k as u32, word));
@@ -177,8 +183,8 @@ fn lowest_difference(one: &[u32], two: &[u32]) -> Found
 {
     let pairs = groups::pair_count(one);
     let others = groups::pair_count(two);
-    let mut firsts = [0u64; 256];
-    let mut seconds = [0u64; 256];
+    let mut firsts = [0u64; groups::VALUE_WORDS];
+    let mut seconds = [0u64; groups::VALUE_WORDS];
     let mut group: u32 = 0;
     while group < GROUPS {
         let f = difference_in(one, pairs, two, others, group, &mut firsts, &mut seconds);

@@ -1,6 +1,6 @@
 -- Masks that reach a set: one signal more, and all ten.
 use Prim.Native.Nat.{ℕ, zero, suc, _+_, _*_, _/_, _%_, _^_, _≤_, _<_}
-use mathlib.Core.Bool.{Bool, true, false, not, _&&_, _||_, and-comm, and-or-distrib-left}
+use mathlib.Core.Bool.{Bool, not, _&&_, _||_, and-comm, and-or-distrib-left}
 use mathlib.Core.Path.{_≡_, refl, sym, ap, ap₂, _∙_}
 use native.Mathlib.Nat.{pow-suc}
 use native.Mathlib.Omega.{arith}

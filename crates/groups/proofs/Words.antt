@@ -24,7 +24,7 @@ use Rattle.layout.specs.Nodes.{ListedPolicy}
 use Rattle.rod.specs.Reading.{someLine, policyValue, joined}
 use Rattle.rod.specs.Values.{joinMeaning}
 use Rattle.groups.specs.Groups.{GroupOf}
-use Rattle.groups.specs.Values.{valueWord, policyBit, EvenOverlap, BlockWord, PolicyWord, JoinedWord}
+use Rattle.groups.specs.Values.{valueWord, policyBit, BlockWord, PolicyWord, JoinedWord}
 
 -- a policy's word, by the code's `^`, `&`, `|` and `!`
 pub policy-bits : (over found turn still : ℕ) → over < 2 ^ 64
@@ -68,6 +68,10 @@ block-told mask group found turn still k over word o w j h =
     w j h ∙ ap (λ (s : Bool). cond s (not (Bool·beq (present (getD found k 0) j) (present turn j))) (present still j)) (o j h)
 
 -- ---- what a policy says
+
+-- in every block of the group the mask overlaps the same sets as in the first
+abbrev pub EvenOverlap : ℕ → ℕ → Type 0
+EvenOverlap mask group = (k : ℕ) → k < 16 → (j : ℕ) → j < 64 → overlap mask (64 * (16 * group + k) + j) ≡ overlap mask (64 * (16 * group) + j)
 
 -- turned over by all sets, or by none
 turned-bit : (f t : Bool) → not (Bool·beq f t) ≡ cond t (not f) f

@@ -34,10 +34,6 @@ Said ws at quiet turned group height values left = PolicyPut (policyAt ws at qui
 abbrev pub policyBit : ℕ → ℕ → ℕ → ℕ → ℕ → Bool
 policyBit over found turn still j = cond (present over j) (not (Bool·beq (present found j) (present turn j))) (present still j)
 
--- in every block of the group the mask overlaps the same sets as in the first
-abbrev pub EvenOverlap : ℕ → ℕ → Type 0
-EvenOverlap mask group = (k : ℕ) → k < 16 → (j : ℕ) → j < 64 → overlap mask (64 * (16 * group + k) + j) ≡ overlap mask (64 * (16 * group) + j)
-
 -- a policy's value is put at this height, from one word of its overlap for all blocks
 abbrev pub EvenPut : ℕ → List ℕ → ℕ → ℕ → ℕ → List ℕ → List ℕ → Type 0
 EvenPut over found turn still height values left =

@@ -12,6 +12,21 @@ ghost use Rattle.rod.specs.Values.{joinMeaning, nodeEnd};
 ghost use Rattle.groups.specs.Groups.{GroupOf, masksFrom, MasksAt, pairCount, SoundWith, Added, Gathered, Spread, AllSpread};
 ghost use Rattle.groups.specs.Values.{policyBit, EvenPut, BlocksPut, Said, JoinPut, PolicyHere, GroupUnderway};
 
+// A word for each block of a group.
+pub const TABLE_WORDS: usize = 16;
+
+pub type Table = [u64; TABLE_WORDS];
+
+// A listing has at most sixteen values at a time, and each is a table.
+pub const VALUE_WORDS: usize = 256;
+
+pub type Values = [u64; VALUE_WORDS];
+
+// How many sets a group has, and the last group: its number is that of the six highest signals.
+const GROUP_SETS: u32 = 1024;
+
+const HIGHEST_GROUP: u32 = 63;
+
 // How many excluded pairs the listing begins with.
 pub fn pair_count(words: &[u32]) -> usize
     ensures { λ r. ⌜ r ≡ pairCount (now (words .entry)) ⌝ }
@@ -31,11 +46,11 @@ fn is_within(mask: u32, group: u32) -> bool
     requires { ⌜ (mask ≤ 65535) × (group ≤ 63) ⌝ }
     ensures { λ r. ⌜ r ≡ inside (mask / 1024) group ⌝ }
 {
-    mask & (63 - group) * 1024 == 0
+    mask & (HIGHEST_GROUP - group) * GROUP_SETS == 0
 }
 
 // If the group has the mask's six highest signals, its set with just the mask's ten lowest is put into the table.
-fn add_mask(table: &mut [u64; 16], mask: u32, group: u32)
+fn add_mask(table: &mut Table, mask: u32, group: u32)
     requires { ⌜ (length (now table) ≡ 16) × (mask ≤ 65535) × (group ≤ 63) ⌝ }
     ensures { λ _. ⌜ Added mask group (now (table .entry)) (now (table .exit)) ⌝ }
 {
@@ -47,7 +62,7 @@ fn add_mask(table: &mut [u64; 16], mask: u32, group: u32)
 }
 
 // The masks of the records from index `from` up to `end` are put into the table, four at a turn (docs/DECISIONS.md, D37).
-fn gather_fours(words: &[u32], from: usize, end: usize, group: u32, table: &mut [u64; 16])
+fn gather_fours(words: &[u32], from: usize, end: usize, group: u32, table: &mut Table)
     requires { ⌜ (length (now table) ≡ 16) × (group ≤ 63) × MasksAt (now words) from end × ((end - from) % 4 ≡ 0) ⌝ }
     ensures { λ _. ⌜ Gathered (now (words .entry)) from end group (now (table .entry)) (now (table .exit)) ⌝ }
 {
@@ -62,7 +77,7 @@ fn gather_fours(words: &[u32], from: usize, end: usize, group: u32, table: &mut 
 }
 
 // The masks of the records from index `from` up to `end` are put into the table, one at a turn.
-fn gather_rest(words: &[u32], from: usize, end: usize, group: u32, table: &mut [u64; 16])
+fn gather_rest(words: &[u32], from: usize, end: usize, group: u32, table: &mut Table)
     requires { ⌜ (length (now table) ≡ 16) × (group ≤ 63) × MasksAt (now words) from end ⌝ }
     ensures { λ _. ⌜ Gathered (now (words .entry)) from end group (now (table .entry)) (now (table .exit)) ⌝ }
 {
@@ -74,7 +89,7 @@ fn gather_rest(words: &[u32], from: usize, end: usize, group: u32, table: &mut [
 }
 
 // The masks of the records from index `from` up to `end` are put into the table.
-pub fn gather(words: &[u32], from: usize, end: usize, group: u32, table: &mut [u64; 16])
+pub fn gather(words: &[u32], from: usize, end: usize, group: u32, table: &mut Table)
     requires { ⌜ (length (now table) ≡ 16) × (group ≤ 63) × MasksAt (now words) from end ⌝ }
     ensures { λ _. ⌜ Gathered (now (words .entry)) from end group (now (table .entry)) (now (table .exit)) ⌝ }
 {
@@ -84,32 +99,32 @@ pub fn gather(words: &[u32], from: usize, end: usize, group: u32, table: &mut [u
 }
 
 // One of the six lowest signals is spread: within each word.
-fn spread_low(table: &mut [u64; 16], signal: u32)
+fn spread_low(table: &mut Table, signal: u32)
     requires { ⌜ (length (now table) ≡ 16) × (signal < 6) ⌝ }
     ensures { λ _. ⌜ Spread signal (now (table .entry)) (now (table .exit)) ⌝ }
 {
     let mut k: usize = 0;
-    while k < 16 {
+    while k < TABLE_WORDS {
         table[k] = blocks::spread(table[k], signal);
         k += 1;
     }
 }
 
 // One of the signals 6 to 9 is spread: from word to word.
-fn spread_high(table: &mut [u64; 16], signal: u32)
+fn spread_high(table: &mut Table, signal: u32)
     requires { ⌜ (length (now table) ≡ 16) × (6 ≤ signal) × (signal ≤ 9) ⌝ }
     ensures { λ _. ⌜ Spread signal (now (table .entry)) (now (table .exit)) ⌝ }
 {
     let weight: usize = 1 << (signal - 6);
     let mut k: usize = 0;
-    while k < 16 {
+    while k < TABLE_WORDS {
         table[k] = table[k] | table[k - (k & weight)];
         k += 1;
     }
 }
 
 // Each set gets what is told of the sets inside it.
-pub fn spread(table: &mut [u64; 16])
+pub fn spread(table: &mut Table)
     requires { ⌜ length (now table) ≡ 16 ⌝ }
     ensures { λ _. ⌜ AllSpread (now (table .entry)) (now (table .exit)) ⌝ }
 {
@@ -126,11 +141,11 @@ pub fn spread(table: &mut [u64; 16])
 }
 
 // The sets of the group inside which a line lies, of the lines from index `from` up to `end`.
-fn lines_inside(words: &[u32], from: usize, end: usize, group: u32) -> [u64; 16]
+fn lines_inside(words: &[u32], from: usize, end: usize, group: u32) -> Table
     requires { ⌜ (group ≤ 63) × MasksAt (now words) from end ⌝ }
     ensures { λ r. ⌜ GroupOf (someLine (masksFrom (now (words .entry)) from (end - from))) group r ⌝ }
 {
-    let mut table = [0u64; 16];
+    let mut table = [0u64; TABLE_WORDS];
     if from >= end {
         return table;
     }
@@ -152,33 +167,26 @@ fn is_even(mask: u32, group: u32) -> bool
     requires { ⌜ group ≤ 63 ⌝ }
     ensures { λ r. ⌜ r ≡ (eqb (mask / 64 % 16) 0 || overlap (mask / 1024) group) ⌝ }
 {
-    mask / 64 % 16 == 0 || mask / 1024 & group != 0
+    mask / 64 % 16 == 0 || mask / GROUP_SETS & group != 0
 }
 
 // The policy's words, each by one and the same word of its overlap.
-fn put_even(
-    values: &mut [u64; 256],
-    height: usize,
-    found: [u64; 16],
-    shared: u64,
-    turn: u64,
-    still: u64,
-)
+fn put_even(values: &mut Values, height: usize, found: Table, shared: u64, turn: u64, still: u64)
     requires { ⌜ (length (now values) ≡ 256) × (height < 16) ⌝ }
     ensures { λ _. ⌜ EvenPut shared found turn still height (now (values .entry)) (now (values .exit)) ⌝ }
 {
     let mut k: usize = 0;
-    while k < 16 {
-        values[height * 16 + k] = policy_word(shared, found[k], turn, still);
+    while k < TABLE_WORDS {
+        values[height * TABLE_WORDS + k] = policy_word(shared, found[k], turn, still);
         k += 1;
     }
 }
 
 // The policy's words, each by its own block's overlap; `low` has the sets that share one of the six lowest signals.
 fn put_blocks(
-    values: &mut [u64; 256],
+    values: &mut Values,
     height: usize,
-    found: [u64; 16],
+    found: Table,
     mask: u32,
     low: u64,
     group: u32,
@@ -190,9 +198,9 @@ fn put_blocks(
     ensures { λ _. ⌜ BlocksPut mask group found turn still height (now (values .entry)) (now (values .exit)) ⌝ }
 {
     let mut k: usize = 0;
-    while k < 16 {
+    while k < TABLE_WORDS {
         let shared = blocks::block_overlap(mask, low, 16 * group + k as u32);
-        values[height * 16 + k] = policy_word(shared, found[k], turn, still);
+        values[height * TABLE_WORDS + k] = policy_word(shared, found[k], turn, still);
         k += 1;
     }
 }
@@ -205,7 +213,7 @@ fn put_policy(
     quiet: bool,
     turned: bool,
     group: u32,
-    values: &mut [u64; 256],
+    values: &mut Values,
     height: usize,
 )
     requires { ⌜ (length (now values) ≡ 256) × (height < 16) × (group ≤ 63) × PolicyHere (now words) at end ⌝ }
@@ -234,14 +242,14 @@ fn join_words(first: u64, second: u64, or: bool) -> u64
 }
 
 // The last two values joined into one.
-fn join_last(values: &mut [u64; 256], height: usize, or: bool)
+fn join_last(values: &mut Values, height: usize, or: bool)
     requires { ⌜ (length (now values) ≡ 256) × (2 ≤ height) × (height ≤ 16) ⌝ }
     ensures { λ _. ⌜ JoinPut (joinMeaning or) (height - 2) (now (values .entry)) (now (values .exit)) ⌝ }
 {
-    let first = (height - 2) * 16;
+    let first = (height - 2) * TABLE_WORDS;
     let mut k: usize = 0;
-    while k < 16 {
-        let word = join_words(values[first + k], values[first + 16 + k], or);
+    while k < TABLE_WORDS {
+        let word = join_words(values[first + k], values[first + TABLE_WORDS + k], or);
         values[first + k] = word;
         k += 1;
     }
@@ -253,7 +261,7 @@ fn after_node(
     at: usize,
     end: usize,
     group: u32,
-    values: &mut [u64; 256],
+    values: &mut Values,
     height: usize,
 ) -> usize
     requires { ⌜ (at < length (now words) / 4) × (end ≡ nodeEnd (now words) at) ⌝ }
@@ -281,7 +289,7 @@ fn after_node(
 }
 
 // What a sound listing, which begins with so many pairs, says of each set of the group: in the first 16 of the values.
-pub fn reading(words: &[u32], pairs: usize, group: u32, values: &mut [u64; 256])
+pub fn reading(words: &[u32], pairs: usize, group: u32, values: &mut Values)
     requires { ⌜ SoundWith (now words) pairs × (group ≤ 63) × (length (now values) ≡ 256) ⌝ }
     ensures { λ _. ⌜ GroupOf (says (now (words .entry))) group (now (values .exit)) ⌝ }
     ensures { λ _. ⌜ length (now (values .exit)) ≡ 256 ⌝ }
