@@ -1,7 +1,7 @@
 //! The choice check and the comparison as a loop over single signal sets, written for speed. It tells what it gains to
 //! take many sets at a time.
 
-use crate::optimised::listing::{check, join, policy_says};
+use crate::optimised::listing::{check, chosen, join, policy_says};
 use cerahupo::{Choice, Comparison, Declined, Listing, Refusal};
 
 /// A listing made ready for many readings.
@@ -63,12 +63,8 @@ impl Ready {
 pub fn choice(words: &[u32]) -> Result<Choice, Refusal> {
     let listing = Ready::new(words)?;
     let first = listing.says(0);
-    Ok(match (1..=u16::MAX).find(|&set| listing.permits(set) && listing.says(set) != first) {
-        None if first => Choice::Always,
-        None => Choice::Never,
-        Some(no) if first => Choice::Both { yes: 0, no },
-        Some(yes) => Choice::Both { yes, no: 0 },
-    })
+    let other = (1..=u16::MAX).find(|&set| listing.permits(set) && listing.says(set) != first);
+    Ok(chosen(first, other))
 }
 
 pub fn compare(one: &[u32], two: &[u32]) -> Result<Comparison, Declined> {

@@ -3,7 +3,7 @@
 //! A block is 64 neighbouring sets, and bit j of a word stands for set 64 * block + j. A group is 16 blocks. The lowest
 //! six signals tell the sets of a block apart, the next four the blocks of a group, the highest six the groups.
 
-use super::listing::{Record, check, says};
+use super::listing::{Record, check, chosen, says};
 use cerahupo::{Choice, Comparison, Declined, Listing, Refusal};
 
 const BLOCKS: usize = 16;
@@ -178,12 +178,7 @@ pub fn choice(words: &[u32]) -> Result<Choice, Refusal> {
         let other = listing.yes(group, &mut values).map(|yes| yes ^ turned);
         both(other, listing.barred(group), |other, barred| other & !barred)
     });
-    Ok(match other {
-        None if first => Choice::Always,
-        None => Choice::Never,
-        Some(no) if first => Choice::Both { yes: 0, no },
-        Some(yes) => Choice::Both { yes, no: 0 },
-    })
+    Ok(chosen(first, other))
 }
 
 pub fn compare(one: &[u32], two: &[u32]) -> Result<Comparison, Declined> {

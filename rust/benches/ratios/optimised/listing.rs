@@ -1,7 +1,7 @@
 //! Judging and reading listings.
 
 use super::{decision, refused};
-use cerahupo::{Decision, Refusal};
+use cerahupo::{Choice, Decision, Refusal};
 
 pub type Record = [u32; 4];
 
@@ -97,4 +97,14 @@ pub fn join(values: u32, with: impl Fn(u32, u32) -> u32) -> u32 {
 pub fn policy_says(kind: u32, mask: u32, set: u16, mut lines: impl Iterator<Item = u32>) -> bool {
     let absent = !u32::from(set);
     if mask & !absent == 0 { kind & 1 == 1 } else { lines.any(|line| line & absent == 0) != (kind & 2 != 0) }
+}
+
+/// The choice, from whether the empty set gives yes and from the lowest set that gives the other answer.
+pub fn chosen(first: bool, other: Option<u16>) -> Choice {
+    match other {
+        None if first => Choice::Always,
+        None => Choice::Never,
+        Some(no) if first => Choice::Both { yes: 0, no },
+        Some(yes) => Choice::Both { yes, no: 0 },
+    }
 }
