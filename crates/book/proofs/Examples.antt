@@ -7,8 +7,9 @@ use lib.IntN.{ℤ, pos, negsuc}
 use lib.ListN.{replicate}
 use Rattle.answers.specs.Answers.{Answer, result, refused}
 use Rattle.arith.specs.Trees.{leaf, join}
-use Rattle.peal.specs.Policies.{Rule, Exclusion, smaller}
-use Rattle.peal.specs.declared.Operator.the-variants.{Min, Max, Sum}
+use Rattle.peal.specs.Policies.{Rule, Policy, Exclusion, Book, smaller}
+use Rattle.peal.specs.declared.Operator.{Operator}
+use Rattle.peal.specs.declared.Operator.the-variants.{Min, Max, Sum, Mul}
 use Rattle.peal.specs.declared.Sense.the-variants.{Above, AtMost}
 use Rattle.book.specs.Text.{bytes}
 use Rattle.book.specs.Books.{read, Counts, checked}
@@ -45,11 +46,11 @@ printed-book : read (bytes "p sum 0\nr 0 40\nr 1 30\nr 2 30\np min 100\nr 3 20\n
 unfolding bookComputes
 printed-book = refl
 
--- no default given means 0; numbers below zero; `>=`
-signed-book : read (bytes "p max\nr 0 -20\nc -10 >= p0\n")
+-- numbers below zero; `>=`
+signed-book : read (bytes "p max -5\nr 0 -20\nc -10 >= p0\n")
     ≡ result
     (record {
-      policies = record { operator = Max; default = pos 0; rules = rule 0 (negsuc 19) ∷ [] } ∷ [];
+      policies = record { operator = Max; default = negsuc 4; rules = rule 0 (negsuc 19) ∷ [] } ∷ [];
       exclusions = [];
       conditions = record { sense = AtMost; threshold = negsuc 9; expression = leaf 0 } ∷ [];
     })
@@ -265,7 +266,7 @@ abbrev excluding : ℕ → ℕ → Exclusion
 excluding a b = record { first = a; second = b }
 
 -- before a policy, between policies and after the last one; the two signals as read
-exclusion-book : read (bytes "x 3 2\np sum\nr 0 40\nx 0 15\np min\nx 1 0\nc 20 < p0\n")
+exclusion-book : read (bytes "x 3 2\np sum\nr 0 40\nx 0 15\np min 0\nx 1 0\nc 20 < p0\n")
     ≡ result
     (record {
       policies = record { operator = Sum; default = pos 0; rules = rule 0 (pos 40) ∷ [] } ∷ record { operator = Min; default = pos 0; rules = [] } ∷ [];
@@ -333,3 +334,71 @@ pair-turned = refl
 signal-again : outcome "x 1 2\nx 2 3\n" ≡ counts 0 0
 unfolding bookComputes
 signal-again = refl
+
+-- ---- a missing default
+
+abbrev ruleless : Operator → ℤ → Policy
+ruleless o d = record { operator = o; default = d; rules = [] }
+
+-- the book of a policy of each operator, with these defaults
+abbrev defaults : (min max sum mul : ℤ) → Answer Book
+defaults a b c d = result (record { policies = ruleless Min a ∷ ruleless Max b ∷ ruleless Sum c ∷ ruleless Mul d ∷ []; exclusions = []; conditions = [] })
+
+missing-defaults : read (bytes "p min\np max\np sum\np mul\n") ≡ defaults (pos 100) (pos 0) (pos 0) (pos 100)
+unfolding bookComputes
+missing-defaults = refl
+
+old-defaults : read (bytes "o\np min\np max\np sum\np mul\n") ≡ defaults (pos 0) (pos 0) (pos 0) (pos 0)
+unfolding bookComputes
+old-defaults = refl
+
+-- a default that is given stays, with `o` and without
+given-defaults : read (bytes "p min 0\np max 7\np sum 100\np mul -7\n") ≡ defaults (pos 0) (pos 7) (pos 100) (negsuc 6)
+unfolding bookComputes
+given-defaults = refl
+
+old-given-defaults : read (bytes "o\np min 100\np max 7\np sum 100\np mul -7\n") ≡ defaults (pos 100) (pos 7) (pos 100) (negsuc 6)
+unfolding bookComputes
+old-given-defaults = refl
+
+-- the `o` is no part of the book, and lasts to its end
+old-to-the-end : read (bytes "o\nx 0 1\np sum\nr 0 1\np min\nc 0 < p1\n") ≡ read (bytes "x 0 1\np sum 0\nr 0 1\np min 0\nc 0 < p1\n")
+unfolding bookComputes
+old-to-the-end = refl
+
+old-alone : outcome "o\n" ≡ counts 0 0
+unfolding bookComputes
+old-alone = refl
+
+old-with-number : outcome "o 1\n" ≡ refused 2 1
+unfolding bookComputes
+old-with-number = refl
+
+old-last-space : outcome "o \n" ≡ refused 2 1
+unfolding bookComputes
+old-last-space = refl
+
+old-no-end : outcome "o" ≡ refused 2 1
+unfolding bookComputes
+old-no-end = refl
+
+old-longer : outcome "oo\n" ≡ refused 2 1
+unfolding bookComputes
+old-longer = refl
+
+old-twice : outcome "o\no\n" ≡ refused 3 2
+unfolding bookComputes
+old-twice = refl
+
+old-after-policy : outcome "p min\no\n" ≡ refused 3 2
+unfolding bookComputes
+old-after-policy = refl
+
+old-last : outcome "p min\nc 0 < p0\no\n" ≡ refused 3 3
+unfolding bookComputes
+old-last = refl
+
+-- it opens no rules
+rule-after-old : outcome "o\nr 0 1\n" ≡ refused 3 2
+unfolding bookComputes
+rule-after-old = refl

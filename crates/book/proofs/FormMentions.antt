@@ -2,6 +2,7 @@
 use Prim.Native.Nat.{ℕ, suc, _+_, _*_, _≤_}
 use mathlib.Core.Bool.{Bool, true, false, cond}
 use mathlib.Core.List.{List, [], _∷_}
+use mathlib.Core.Option.{some}
 use mathlib.Core.Path.{_≡_, refl}
 use native.Mathlib.Omega.{arith}
 use lib.Dec.{eqb}
@@ -13,7 +14,7 @@ use Rattle.peal.specs.declared.Sense.{Sense}
 use Rattle.book.specs.Text.{bytes, longer, parted, fields, is}
 use Rattle.book.specs.Numbers.{natural, number}
 use Rattle.book.specs.Expressions.{expression}
-use Rattle.book.specs.Forms.{Form, policy, rule, exclusion, condition, operator, sense, barePolicy, fullPolicy, ruleLine, exclusionLine, conditionLine, formOf, form}
+use Rattle.book.specs.Forms.{Form, oldZero, policy, rule, exclusion, condition, operator, sense, barePolicy, fullPolicy, ruleLine, exclusionLine, conditionLine, formOf, form}
 use Rattle.book.specs.Ranges.{mentionCount}
 use Rattle.book.proofs.LineLaws.{number-length, sense-length}
 use Rattle.book.proofs.MentionLaws.{expression-fits}
@@ -40,6 +41,7 @@ parted-span x (b ∷ s) = go (eqb b x) (parted-span x s)
 
 -- a condition has at most 16 mentions
 abbrev pub FewMentions : Form → Type 0
+FewMentions oldZero = Unit {0}
 FewMentions (policy o d) = Unit {0}
 FewMentions (rule s v) = Unit {0}
 FewMentions (exclusion a b) = Unit {0}
@@ -72,7 +74,7 @@ exclusion-fits a b = finds-any FewMentions (natural a) _ (λ m. finds-any FewMen
 fields-fit : (fs : List (List ℕ)) → span fs ≤ 129 → Finds FewMentions (formOf fs)
 unfolding span formOf
 fields-fit [] h = tt
-fields-fit (k ∷ []) h = tt
+fields-fit (k ∷ []) h = finds-if FewMentions (is (bytes "o") k) (some oldZero) (λ e. tt)
 fields-fit (k ∷ a ∷ []) h = finds-if FewMentions (is (bytes "p") k) (barePolicy a) (λ e. bare-fits a)
 fields-fit (k ∷ a ∷ b ∷ []) h =
     finds-either FewMentions (is (bytes "p") k) (fullPolicy a b) _ (full-fits a b)

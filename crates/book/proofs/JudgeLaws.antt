@@ -21,7 +21,7 @@ use Rattle.peal.specs.Translation.{maskOf}
 use Rattle.peal.specs.declared.Operator.{Operator}
 use Rattle.peal.specs.declared.Sense.{Sense}
 use Rattle.limits.specs.Limits.{roomForPolicy, roomForCondition, roomForExclusion, signalInRange, exclusionInRange, thresholdInRange}
-use Rattle.book.specs.Forms.{Form, policy, rule, exclusion, condition}
+use Rattle.book.specs.Forms.{Form, oldZero, policy, rule, exclusion, condition}
 use Rattle.book.specs.Acceptance.{BookSoFar, lastPolicy, noCondition, inPlace, inCount, roomForRule, defaultInRange, scoreInRange, mentionsBelow, inRange, excludes, isNew, accept}
 use Rattle.book.specs.Ranges.{signalsOf}
 use Rattle.book.specs.Codes.{HoldsCodes}
@@ -32,23 +32,23 @@ use Rattle.book.specs.declared.acceptance.Verdict.the-variants.{Fine, Re
 -- ---- the tests in their order
 
 module _ (n : ℕ) (so : BookSoFar) (f : Form) where
-  pub accept-3 : inPlace so f ≡ false → refused 3 n ≡ accept n so f
+  pub accept-3 : inPlace n so f ≡ false → refused 3 n ≡ accept n so f
   unfolding accept
   accept-3 a = rw a
 
-  pub accept-4 : inPlace so f ≡ true → inCount so f ≡ false → refused 4 n ≡ accept n so f
+  pub accept-4 : inPlace n so f ≡ true → inCount so f ≡ false → refused 4 n ≡ accept n so f
   unfolding accept
   accept-4 a b = rw (a, b)
 
-  pub accept-5 : inPlace so f ≡ true → inCount so f ≡ true → inRange so f ≡ false → refused 5 n ≡ accept n so f
+  pub accept-5 : inPlace n so f ≡ true → inCount so f ≡ true → inRange so f ≡ false → refused 5 n ≡ accept n so f
   unfolding accept
   accept-5 a b c = rw (a, b, c)
 
-  pub accept-6 : inPlace so f ≡ true → inCount so f ≡ true → inRange so f ≡ true → isNew so f ≡ false → refused 6 n ≡ accept n so f
+  pub accept-6 : inPlace n so f ≡ true → inCount so f ≡ true → inRange so f ≡ true → isNew so f ≡ false → refused 6 n ≡ accept n so f
   unfolding accept
   accept-6 a b c d = rw (a, b, c, d)
 
-  pub accept-fine : inPlace so f ≡ true → inCount so f ≡ true → inRange so f ≡ true → isNew so f ≡ true → result (after so f) ≡ accept n so f
+  pub accept-fine : inPlace n so f ≡ true → inCount so f ≡ true → inRange so f ≡ true → isNew so f ≡ true → result (after so f) ≡ accept n so f
   unfolding accept after
   accept-fine a b c d = rw (a, b, c, d)
 
@@ -58,23 +58,34 @@ not-fine h = let z : _≡_ {A = ℕ} 0 1 = cc in absurd (omega arith)
 
 -- ---- before the first condition
 
-module _ (so : BookSoFar) (n : ℕ) (e : n ≡ length (so .book .conditions)) where
-  no-condition : n ≤ 0 → noCondition so ≡ true
+module _ (so : BookSoFar) (a : ℕ) (e : a ≡ length (so .book .conditions)) where
+  no-condition : a ≤ 0 → noCondition so ≡ true
   no-condition h = eq-eqb (length (so .book .conditions)) 0 (omega arith)
 
-  some-condition : 0 < n → noCondition so ≡ false
+  some-condition : 0 < a → noCondition so ≡ false
   some-condition h = ne-eqb (length (so .book .conditions)) 0 (λ q. omega arith)
+
+-- ---- an `o`
+
+module _ (n : ℕ) (so : BookSoFar) where
+  pub old-zero-placed : (t b : Bool) → t ≡ eqb n 1 → t ≡ b → inPlace n so oldZero ≡ b
+  unfolding inPlace
+  old-zero-placed t b e h = sym e ∙ h
+
+  pub old-zero-fine : inPlace n so oldZero ≡ true → result (after so oldZero) ≡ accept n so oldZero
+  unfolding inCount inRange isNew
+  old-zero-fine h = accept-fine n so oldZero h refl refl refl
 
 -- ---- a policy
 
 module _ (so : BookSoFar) (o : Operator) (d : Option ℤ) where
-  pub policy-placed : (a : ℕ) → a ≡ length (so .book .conditions) → a ≤ 0 → inPlace so (policy o d) ≡ true
+  pub policy-placed : (n a : ℕ) → a ≡ length (so .book .conditions) → a ≤ 0 → inPlace n so (policy o d) ≡ true
   unfolding inPlace
-  policy-placed a e h = no-condition so a e h
+  policy-placed n a e h = no-condition so a e h
 
-  pub policy-misplaced : (a : ℕ) → a ≡ length (so .book .conditions) → 0 < a → inPlace so (policy o d) ≡ false
+  pub policy-misplaced : (n a : ℕ) → a ≡ length (so .book .conditions) → 0 < a → inPlace n so (policy o d) ≡ false
   unfolding inPlace
-  policy-misplaced a e h = some-condition so a e h
+  policy-misplaced n a e h = some-condition so a e h
 
   pub policy-counted : (a : ℕ) → a ≡ length (so .book .policies) → (b : Bool) → roomForPolicy a ≡ b → inCount so (policy o d) ≡ b
   unfolding inCount
@@ -91,9 +102,9 @@ module _ (so : BookSoFar) (o : Operator) (d : Option ℤ) where
 -- ---- a rule, for the operator o of the policy that it would be added to
 
 module _ (so : BookSoFar) (s : ℕ) (v : ℤ) where
-  pub rule-placed : (t b : Bool) → t ≡ so .inRules → t ≡ b → inPlace so (rule s v) ≡ b
+  pub rule-placed : (n : ℕ) (t b : Bool) → t ≡ so .inRules → t ≡ b → inPlace n so (rule s v) ≡ b
   unfolding inPlace
-  rule-placed t b e h = sym e ∙ h
+  rule-placed n t b e h = sym e ∙ h
 
   module _ (o : Operator) (same : o ≡ lastPolicy (so .book) .operator) where
     pub rule-counted : (n : ℕ) → n ≡ length (lastPolicy (so .book) .rules) → (b : Bool) → roomForRule o n ≡ b → inCount so (rule s v) ≡ b
@@ -123,13 +134,13 @@ module _ (so : BookSoFar) (s : ℕ) (v : ℤ) where
 -- ---- an exclusion
 
 module _ (so : BookSoFar) (a b : ℕ) where
-  pub exclusion-placed : (n : ℕ) → n ≡ length (so .book .conditions) → n ≤ 0 → inPlace so (exclusion a b) ≡ true
+  pub exclusion-placed : (n k : ℕ) → k ≡ length (so .book .conditions) → k ≤ 0 → inPlace n so (exclusion a b) ≡ true
   unfolding inPlace
-  exclusion-placed n e h = no-condition so n e h
+  exclusion-placed n k e h = no-condition so k e h
 
-  pub exclusion-misplaced : (n : ℕ) → n ≡ length (so .book .conditions) → 0 < n → inPlace so (exclusion a b) ≡ false
+  pub exclusion-misplaced : (n k : ℕ) → k ≡ length (so .book .conditions) → 0 < k → inPlace n so (exclusion a b) ≡ false
   unfolding inPlace
-  exclusion-misplaced n e h = some-condition so n e h
+  exclusion-misplaced n k e h = some-condition so k e h
 
   pub exclusion-counted : (n : ℕ) → n ≡ length (so .book .exclusions) → (t : Bool) → roomForExclusion n ≡ t → inCount so (exclusion a b) ≡ t
   unfolding inCount
@@ -146,9 +157,9 @@ module _ (so : BookSoFar) (a b : ℕ) where
 -- ---- a condition
 
 module _ (so : BookSoFar) (c : Sense) (t : ℤ) (e : Expression) where
-  pub condition-placed : inPlace so (condition c t e) ≡ true
+  pub condition-placed : (n : ℕ) → inPlace n so (condition c t e) ≡ true
   unfolding inPlace
-  condition-placed = refl
+  condition-placed n = refl
 
   pub condition-counted : (a : ℕ) → a ≡ length (so .book .conditions) → (b : Bool) → roomForCondition a ≡ b → inCount so (condition c t e) ≡ b
   unfolding inCount

@@ -19,11 +19,11 @@ use Rattle.arith.proofs.Options.{Finds}
 use Rattle.arith.proofs.Tests.{and-left, and-right, clash}
 use Rattle.peal.specs.Policies.{Rule, Policy, Exclusion, Condition, Book, policyAt}
 use Rattle.peal.specs.declared.Operator.{Operator}
-use Rattle.peal.specs.declared.Operator.the-variants.{Mul}
+use Rattle.peal.specs.declared.Operator.the-variants.{Min, Max, Sum, Mul}
 use Rattle.limits.specs.Limits.{exclusionInRange}
 use Rattle.book.specs.Text.{Line, textLines}
-use Rattle.book.specs.Forms.{Form, policy, rule, exclusion, condition, form}
-use Rattle.book.specs.Acceptance.{BookSoFar, noLine, emptyBook, lastPolicy, inPlace, inCount, roomForRule, within, defaultInRange, scoreInRange, mentionsBelow, inRange, isNew, defaultOf, withRule, withPolicies, withLast, withExclusion, withCondition, bookWith, opensRules, accept}
+use Rattle.book.specs.Forms.{Form, oldZero, policy, rule, exclusion, condition, form}
+use Rattle.book.specs.Acceptance.{BookSoFar, noLine, emptyBook, lastPolicy, inPlace, inCount, roomForRule, within, defaultInRange, scoreInRange, mentionsBelow, inRange, isNew, missingDefault, defaultOf, withRule, withPolicies, withLast, withExclusion, withCondition, bookWith, opensRules, accept}
 use Rattle.book.specs.Books.{acceptForm, readLine, readLines, read}
 use Rattle.book.specs.Ranges.{signalsOf, mentionCount, PolicyInRange, ExclusionInRange, ConditionInRange, BookInRange}
 use Rattle.book.specs.Judged.{after}
@@ -33,16 +33,16 @@ use Rattle.book.proofs.JudgeLaws.{accept-fine}
 
 -- ---- what an accepted line has passed
 
-pub record Passed (so : BookSoFar) (f : Form) : Type 0 where
-  pub place : inPlace so f ≡ true
+pub record Passed (n : ℕ) (so : BookSoFar) (f : Form) : Type 0 where
+  pub place : inPlace n so f ≡ true
   pub count : inCount so f ≡ true
   pub range : inRange so f ≡ true
   pub new : isNew so f ≡ true
 
-pub passed : (n : ℕ) (so next : BookSoFar) (f : Form) → accept n so f ≡ result next → Passed so f
+pub passed : (n : ℕ) (so next : BookSoFar) (f : Form) → accept n so f ≡ result next → Passed n so f
 unfolding accept
 passed n so next f h =
-    let a = required (inPlace so f) 3 n _ next h in
+    let a = required (inPlace n so f) 3 n _ next h in
     let b = required (inCount so f) 4 n _ next (a .1) in
     let c = required (inRange so f) 5 n _ next (b .1) in
     let d = required (isNew so f) 6 n _ next (c .1) in
@@ -50,10 +50,18 @@ passed n so next f h =
 
 -- ---- a policy and a condition
 
-new-in-range : (o : Operator) (d : Option ℤ) → defaultInRange d ≡ true → PolicyInRange (record { operator = o; default = defaultOf o d; rules = [] })
-unfolding defaultInRange defaultOf within
-new-in-range o none h = record { default = refl; signals = tt; distinct = tt; scores = tt; room = λ _. omega arith }
-new-in-range o (some d) h = record { default = h; signals = tt; distinct = tt; scores = tt; room = λ _. omega arith }
+missing-in-range : (old : Bool) (o : Operator) → defaultInRange (some (missingDefault old o)) ≡ true
+unfolding missingDefault defaultInRange within
+missing-in-range true o = refl
+missing-in-range false Min = refl
+missing-in-range false Max = refl
+missing-in-range false Sum = refl
+missing-in-range false Mul = refl
+
+new-in-range : (old : Bool) (o : Operator) (d : Option ℤ) → defaultInRange d ≡ true → PolicyInRange (record { operator = o; default = defaultOf old o d; rules = [] })
+unfolding defaultInRange defaultOf
+new-in-range old o none h = record { default = missing-in-range old o; signals = tt; distinct = tt; scores = tt; room = λ _. omega arith }
+new-in-range old o (some d) h = record { default = h; signals = tt; distinct = tt; scores = tt; room = λ _. omega arith }
 
 room-in-mul : (o : Operator) (rules : List Rule) → roomForRule o (length rules) ≡ true → o ≡ Mul → length rules < 8
 unfolding roomForRule
@@ -169,7 +177,7 @@ abbrev changed : BookSoFar → ℕ → ℤ → Policy
 changed so s v = withRule (lastPolicy (so .book)) (record { signal = s; score = v })
 
 module _ (so : BookSoFar) (b : Bounded so) where
-  module _ (s : ℕ) (v : ℤ) (p : Passed so (rule s v)) where
+  module _ (n s : ℕ) (v : ℤ) (p : Passed n so (rule s v)) where
     pub rule-some : 0 < length (so .book .policies)
     unfolding inPlace
     rule-some = b .some (p .place)
@@ -187,20 +195,21 @@ module _ (so : BookSoFar) (b : Bounded so) where
     unfolding withRule
     rule-room = omega (arith, rules-at-most (changed so s v) changed-in-range, length-append (lastPolicy (so .book) .rules) (record { signal = s; score = v } ∷ []))
 
-  bounded-after : (f : Form) → Passed so f → FewMentions f → Bounded (after so f)
+  bounded-after : (n : ℕ) (f : Form) → Passed n so f → FewMentions f → Bounded (after so f)
   unfolding after bookWith opensRules inPlace inCount inRange withPolicies withLast
-  bounded-after (policy o d) p few =
-      let q : Policy = record { operator = o; default = defaultOf o d; rules = [] } in
+  bounded-after n oldZero p few = record { range = b .range; some = λ h. clash h refl }
+  bounded-after n (policy o d) p few =
+      let q : Policy = record { operator = o; default = defaultOf (so .old) o d; rules = [] } in
       let empty = eqb-true (length (so .book .conditions)) 0 (p .place) in
       let room = ltb-true (length (so .book .policies)) 16 (p .count) in
-      record { range = policy-added (so .book) (b .range) q empty room (new-in-range o d (p .range)); some = λ _. omega (arith, length-append (so .book .policies) (q ∷ [])) }
-  bounded-after (rule s v) p few =
+      record { range = policy-added (so .book) (b .range) q empty room (new-in-range (so .old) o d (p .range)); some = λ _. omega (arith, length-append (so .book .policies) (q ∷ [])) }
+  bounded-after n (rule s v) p few =
       let same = length-set (so .book .policies) (length (so .book .policies) - 1) (changed so s v) in
-      record { range = last-changed (so .book) (b .range) (changed so s v) (changed-in-range s v p); some = λ _. omega (arith, rule-some s v p) }
-  bounded-after (exclusion a c) p few =
+      record { range = last-changed (so .book) (b .range) (changed so s v) (changed-in-range n s v p); some = λ _. omega (arith, rule-some n s v p) }
+  bounded-after n (exclusion a c) p few =
       let room = ltb-true (length (so .book .exclusions)) 16 (p .count) in
       record { range = exclusion-added (so .book) (b .range) (record { first = a; second = c }) room (exclusion-in-range a c (p .range)); some = λ h. clash h refl }
-  bounded-after (condition c t e) p few =
+  bounded-after n (condition c t e) p few =
       let k : Condition = record { sense = c; threshold = t; expression = e } in
       let room = ltb-true (length (so .book .conditions)) 8 (p .count) in
       record { range = condition-added (so .book) (b .range) k room (condition-in-range (length (so .book .policies)) k (p .range) few); some = λ h. clash h refl }
@@ -208,7 +217,7 @@ module _ (so : BookSoFar) (b : Bounded so) where
 pub accept-bounded : (n : ℕ) (so next : BookSoFar) (f : Form) → Bounded so → FewMentions f → accept n so f ≡ result next → Bounded next
 accept-bounded n so next f b few h =
     let p = passed n so next f h in
-    subst Bounded (result-is (accept-fine n so f (p .place) (p .count) (p .range) (p .new) ∙ h)) (bounded-after so b f p few)
+    subst Bounded (result-is (accept-fine n so f (p .place) (p .count) (p .range) (p .new) ∙ h)) (bounded-after so b n f p few)
 
 -- ---- the lines from the top
 

@@ -69,7 +69,7 @@ pub record Going (s : List ℕ) (at n : ℕ) (kept : SoFar) (cells : List ℤ) :
   pub held : Holds kept cells so
   pub same : readLines n so (textLines (drop at s)) ≡ read s
 
-pub start : (s : List ℕ) (cells : List ℤ) → bookFits (length s) ≡ true → BookCells cells emptyBook → Going s 0 1 (record { inside = false; opened = 0; asked = 0 }) cells
+pub start : (s : List ℕ) (cells : List ℤ) → bookFits (length s) ≡ true → BookCells cells emptyBook → Going s 0 1 (record { inside = false; opened = 0; asked = 0; old = false }) cells
 unfolding noLine emptyBook soFarOf
 start s cells h none = record { so = noLine; held = record { left = refl; held = none; bounded = bounded-start }; same = read-lines s h }
 

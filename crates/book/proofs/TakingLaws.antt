@@ -18,13 +18,13 @@ use Rattle.peal.specs.declared.Operator.{Operator}
 use Rattle.peal.specs.declared.Sense.{Sense}
 use Rattle.book.specs.Text.{Line}
 use Rattle.book.specs.Expressions.{expression}
-use Rattle.book.specs.Forms.{Form, policy, rule, exclusion, condition, form}
+use Rattle.book.specs.Forms.{Form, oldZero, policy, rule, exclusion, condition, form}
 use Rattle.limits.specs.Limits.{lineFits}
-use Rattle.book.specs.Acceptance.{BookSoFar, noLine, lastPolicy, within, scoreInRange, mentionsBelow, inPlace, inCount, inRange, defaultOf, withRule, withPolicies, withLast, withExclusion, withCondition, bookWith, opensRules, accept}
+use Rattle.book.specs.Acceptance.{BookSoFar, noLine, lastPolicy, within, scoreInRange, mentionsBelow, inPlace, inCount, inRange, defaultOf, withRule, withPolicies, withLast, withExclusion, withCondition, bookWith, opensRules, oldAfter, accept}
 use Rattle.book.specs.Books.{acceptForm, readLine}
 use Rattle.book.specs.Cells.{PolicyCells, BookCells}
 use Rattle.book.specs.Ranges.{PolicyInRange, ExclusionInRange, PolicyKept, ExclusionsKept}
-use Rattle.book.specs.Judged.{verdictMeaning, after, Judged}
+use Rattle.book.specs.Judged.{verdictMeaning, after, JudgedAt, Judged}
 use Rattle.book.specs.Taken.{soFarOf, Bounded, Holds, TakenAs}
 use Rattle.book.specs.declared.Reason.{Reason}
 use Rattle.book.specs.declared.Reason.the-variants.{TooLong, NoForm}
@@ -38,20 +38,20 @@ use Rattle.book.proofs.RangeLaws.{Passed, passed, policy-in-range, rule
 
 -- ---- taken lines
 
-pub taken-fine : (n : ℕ) (so : BookSoFar) (f : Form) (t : Taken) (cells : List ℤ) → Bounded so → FewMentions f → Judged so f Fine → t .verdict ≡ Fine → t .so ≡ soFarOf (after so f)
+pub taken-fine : (n : ℕ) (so : BookSoFar) (f : Form) (t : Taken) (cells : List ℤ) → Bounded so → FewMentions f → JudgedAt n so f Fine → t .verdict ≡ Fine → t .so ≡ soFarOf (after so f)
     → BookCells cells (after so f .book) → TakenAs n (accept n so f) t cells
 taken-fine n so f t cells b few j v e k =
-    subst (λ (a : Answer BookSoFar). TakenAs n a t cells) (j n) (v, record { left = e; held = k; bounded = accept-bounded n so (after so f) f b few (sym (j n)) })
+    subst (λ (a : Answer BookSoFar). TakenAs n a t cells) j (v, record { left = e; held = k; bounded = accept-bounded n so (after so f) f b few (sym j) })
 
-pub taken-refused : (n : ℕ) (so : BookSoFar) (f : Form) (r : Reason) (t : Taken) (cells : List ℤ) → Judged so f (Refused r) → t .verdict ≡ Refused r → TakenAs n (accept n so f) t cells
-taken-refused n so f r t cells j v = subst (λ (a : Answer BookSoFar). TakenAs n a t cells) (j n) (ap (λ (w : Verdict). verdictMeaning n w noLine) v)
+pub taken-refused : (n : ℕ) (so : BookSoFar) (f : Form) (r : Reason) (t : Taken) (cells : List ℤ) → JudgedAt n so f (Refused r) → t .verdict ≡ Refused r → TakenAs n (accept n so f) t cells
+taken-refused n so f r t cells j v = subst (λ (a : Answer BookSoFar). TakenAs n a t cells) j (ap (λ (w : Verdict). verdictMeaning n w noLine) v)
 
 -- the verdict that the code matched on
 pub judged-as : (so : BookSoFar) (f : Form) (v w : Verdict) → v ≡ w → Judged so f v → Judged so f w
 judged-as so f v w e j = subst (λ (x : Verdict). Judged so f x) e j
 
 -- what a fine line has passed
-fine-passed : (so : BookSoFar) (f : Form) → Judged so f Fine → Passed so f
+fine-passed : (so : BookSoFar) (f : Form) → Judged so f Fine → Passed 0 so f
 fine-passed so f j = passed 0 so (after so f) f (sym (j 0))
 
 -- ---- what stands so far
@@ -68,6 +68,10 @@ module _ (s : SoFar) (cells : List ℤ) (so : BookSoFar) (h : Holds s cells so) 
   pub kept-asked : s .asked ≡ length (so .book .conditions)
   unfolding soFarOf
   kept-asked = ap (λ (x : SoFar). x .asked) (h .left)
+
+  pub kept-old : s .old ≡ so .old
+  unfolding soFarOf
+  kept-old = ap (λ (x : SoFar). x .old) (h .left)
 
   -- the policy that rules are added to, where they may follow
   module _ (inside : s .inside ≡ true) where
@@ -94,27 +98,33 @@ module _ (s : SoFar) (cells : List ℤ) (so : BookSoFar) (h : Holds s cells so) 
 
   -- ---- what a fine line leaves
 
-  pub policy-left : (o : Operator) (d : Option ℤ) → _≡_ {A = SoFar} (record { inside = true; opened = s .opened + 1; asked = s .asked }) (soFarOf (after so (policy o d)))
-  unfolding soFarOf after bookWith opensRules withPolicies
-  policy-left o d =
-      let p : Policy = record { operator = o; default = defaultOf o d; rules = [] } in
-      let n : s .opened + 1 ≡ length (so .book .policies ++ (p ∷ [])) = omega (arith, kept-opened, length-append (so .book .policies) (p ∷ [])) in
-      λ i. record { inside = true; opened = n i; asked = kept-asked i }
+  pub old-zero-left : _≡_ {A = SoFar} (record { inside = false; opened = s .opened; asked = s .asked; old = true }) (soFarOf (after so oldZero))
+  unfolding soFarOf after bookWith opensRules oldAfter
+  old-zero-left = λ i. record { inside = false; opened = kept-opened i; asked = kept-asked i; old = true }
 
-  pub exclusion-left : (a b : ℕ) → _≡_ {A = SoFar} (record { inside = false; opened = s .opened; asked = s .asked }) (soFarOf (after so (exclusion a b)))
-  unfolding soFarOf after bookWith opensRules withExclusion
-  exclusion-left a b = λ i. record { inside = false; opened = kept-opened i; asked = kept-asked i }
+  pub policy-left : (o : Operator) (d : Option ℤ)
+      → _≡_ {A = SoFar} (record { inside = true; opened = s .opened + 1; asked = s .asked; old = s .old }) (soFarOf (after so (policy o d)))
+  unfolding soFarOf after bookWith opensRules oldAfter withPolicies
+  policy-left o d =
+      let p : Policy = record { operator = o; default = defaultOf (so .old) o d; rules = [] } in
+      let n : s .opened + 1 ≡ length (so .book .policies ++ (p ∷ [])) = omega (arith, kept-opened, length-append (so .book .policies) (p ∷ [])) in
+      λ i. record { inside = true; opened = n i; asked = kept-asked i; old = kept-old i }
+
+  pub exclusion-left : (a b : ℕ)
+      → _≡_ {A = SoFar} (record { inside = false; opened = s .opened; asked = s .asked; old = s .old }) (soFarOf (after so (exclusion a b)))
+  unfolding soFarOf after bookWith opensRules oldAfter withExclusion
+  exclusion-left a b = λ i. record { inside = false; opened = kept-opened i; asked = kept-asked i; old = kept-old i }
 
   pub condition-left : (c : Sense) (t : ℤ) (e : Expression)
-      → _≡_ {A = SoFar} (record { inside = false; opened = s .opened; asked = s .asked + 1 }) (soFarOf (after so (condition c t e)))
-  unfolding soFarOf after bookWith opensRules withCondition
+      → _≡_ {A = SoFar} (record { inside = false; opened = s .opened; asked = s .asked + 1; old = s .old }) (soFarOf (after so (condition c t e)))
+  unfolding soFarOf after bookWith opensRules oldAfter withCondition
   condition-left c t e =
       let k : Condition = record { sense = c; threshold = t; expression = e } in
       let n : s .asked + 1 ≡ length (so .book .conditions ++ (k ∷ [])) = omega (arith, kept-asked, length-append (so .book .conditions) (k ∷ [])) in
-      λ i. record { inside = false; opened = kept-opened i; asked = n i }
+      λ i. record { inside = false; opened = kept-opened i; asked = n i; old = kept-old i }
 
   module _ (signal : ℕ) (v : ℤ) (j : Judged so (rule signal v) Fine) where
-    abbrev pass : Passed so (rule signal v)
+    abbrev pass : Passed 0 so (rule signal v)
     pass = fine-passed so (rule signal v) j
 
     placed : so .inRules ≡ true
@@ -126,7 +136,7 @@ module _ (s : SoFar) (cells : List ℤ) (so : BookSoFar) (h : Holds s cells so) 
     rule-inside = kept-inside ∙ placed
 
     pub rule-left : s ≡ soFarOf (after so (rule signal v))
-    unfolding soFarOf after bookWith opensRules withLast withPolicies
+    unfolding soFarOf after bookWith opensRules oldAfter withLast withPolicies
     rule-left =
         let p : Policy = withRule (lastPolicy (so .book)) (record { signal = signal; score = v }) in
         h .left
@@ -135,13 +145,14 @@ module _ (s : SoFar) (cells : List ℤ) (so : BookSoFar) (h : Holds s cells so) 
           inside = placed i;
           opened = sym (length-set (so .book .policies) (length (so .book .policies) - 1) p) i;
           asked = length (so .book .conditions);
+          old = so .old;
         })
 
     -- a signal that is new leaves room
     pub rule-fits : (length (lastPolicy (so .book) .rules) < 16) × (signal < 16)
     unfolding inRange
     rule-fits = (
-      rule-room so (h .bounded) signal v pass,
+      rule-room so (h .bounded) 0 signal v pass,
       omega (arith, leb-true signal 15 (and-left (leb signal 15) (scoreInRange (lastPolicy (so .book) .operator) v) (pass .range))),
     )
 
@@ -157,7 +168,7 @@ module _ (so : BookSoFar) (a b : ℕ) (j : Judged so (exclusion a b) Fine) where
 
 -- the cells after a fine line
 module _ (cells : List ℤ) (so : BookSoFar) where
-  pub policy-cells : (o : Operator) (d : Option ℤ) (z : ℤ) → z ≡ defaultOf o d
+  pub policy-cells : (o : Operator) (d : Option ℤ) (z : ℤ) → z ≡ defaultOf (so .old) o d
       → BookCells cells (withPolicies (so .book) (so .book .policies ++ (record { operator = o; default = z; rules = [] } ∷ []))) → BookCells cells (after so (policy o d) .book)
   unfolding after bookWith
   policy-cells o d z e k =

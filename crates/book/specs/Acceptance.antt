@@ -1,4 +1,4 @@
--- The acceptance of a line (document 01, "Place" and "Ranges" of "The book", refusals 3 to 6; change request 1 for an `x`).
+-- The acceptance of a line (document 01, "Place" and "Ranges" of "The book", refusals 3 to 6; change request 1 for an `x`, 2 for an `o`).
 use Prim.Native.Nat.{ℕ, _-_}
 use mathlib.Core.Bool.{Bool, true, false, not, _&&_, _||_}
 use mathlib.Core.List.{List, [], _∷_, _++_}
@@ -11,14 +11,16 @@ use Rattle.arith.specs.Trees.{treeValue}
 use Rattle.answers.specs.Answers.{Answer, result, require}
 use Rattle.peal.specs.Policies.{Rule, Policy, MinMax, Expression, Exclusion, Condition, Book, policyAt}
 use Rattle.peal.specs.declared.Operator.{Operator}
+use Rattle.peal.specs.declared.Operator.the-variants.{Min, Max, Sum, Mul}
 use Rattle.limits.specs.Limits.{roomForPolicy, roomForCondition, roomForExclusion, signalInRange, exclusionInRange, thresholdInRange}
 unfoldable pub use Rattle.limits.specs.Limits.{roomForRule, within, defaultInRange, scoreInRange}
-use Rattle.book.specs.Forms.{Form, policy, rule, exclusion, condition}
+use Rattle.book.specs.Forms.{Form, oldZero, policy, rule, exclusion, condition}
 
--- the book so far, and whether the line above is a `p` or an `r`
+-- the book so far, whether the line above is a `p` or an `r`, and whether the first line is an `o`
 pub record BookSoFar : Type 0 where
   pub book : Book
   pub inRules : Bool
+  pub old : Bool
 
 -- the book with nothing in it
 unfoldable pub emptyBook : Book
@@ -26,7 +28,7 @@ emptyBook = record { policies = []; exclusions = []; conditions = [] }
 
 -- before the first line
 unfoldable pub noLine : BookSoFar
-noLine = record { book = emptyBook; inRules = false }
+noLine = record { book = emptyBook; inRules = false; old = false }
 
 -- the policy that a rule is added to, the last one
 unfoldable pub lastPolicy : Book → Policy
@@ -36,15 +38,17 @@ lastPolicy b = policyAt (b .policies) (length (b .policies) - 1)
 abbrev pub noCondition : BookSoFar → Bool
 noCondition so = eqb (length (so .book .conditions)) 0
 
--- 3: `p` and `x` only before the first `c`; `r` only directly after a `p` or `r`
-unfoldable pub inPlace : BookSoFar → Form → Bool
-inPlace so (policy op d) = noCondition so
-inPlace so (rule s v) = so .inRules
-inPlace so (exclusion a b) = noCondition so
-inPlace so (condition c t e) = true
+-- 3: `o` only as line 1; `p` and `x` only before the first `c`; `r` only directly after a `p` or `r`
+unfoldable pub inPlace : ℕ → BookSoFar → Form → Bool
+inPlace n so oldZero = eqb n 1
+inPlace n so (policy op d) = noCondition so
+inPlace n so (rule s v) = so .inRules
+inPlace n so (exclusion a b) = noCondition so
+inPlace n so (condition c t e) = true
 
 -- 4: at most 16 policies, 8 conditions, 8 rules in a mul policy, 16 exclusions
 unfoldable pub inCount : BookSoFar → Form → Bool
+inCount so oldZero = true
 inCount so (policy op d) = roomForPolicy (length (so .book .policies))
 inCount so (rule s v) = roomForRule (lastPolicy (so .book) .operator) (length (lastPolicy (so .book) .rules))
 inCount so (exclusion a b) = roomForExclusion (length (so .book .exclusions))
@@ -56,6 +60,7 @@ mentionsBelow n e = treeValue (λ (m : MinMax) a b. a && b) (λ m. ltb m n) e
 
 -- 5: numbers in range; S, A and B are 0 to 15, and A is not B; T is −200,000 to 200,000; a policy number belongs to a policy above
 unfoldable pub inRange : BookSoFar → Form → Bool
+inRange so oldZero = true
 inRange so (policy op d) = defaultInRange d
 inRange so (rule s v) = signalInRange s && scoreInRange (lastPolicy (so .book) .operator) v
 inRange so (exclusion a b) = exclusionInRange a b
@@ -67,15 +72,24 @@ excludes a b x = (eqb (x .first) a && eqb (x .second) b) || (eqb (x .first) b &&
 
 -- 6: a signal occurs at most once in a policy, and a pair at most once in the book
 unfoldable pub isNew : BookSoFar → Form → Bool
+isNew so oldZero = true
 isNew so (policy op d) = true
 isNew so (rule s v) = not (any (λ (q : Rule). eqb (q .signal) s) (lastPolicy (so .book) .rules))
 isNew so (exclusion a b) = not (any (excludes a b) (so .book .exclusions))
 isNew so (condition c t e) = true
 
--- `p OP` alone means D = 0
-unfoldable pub defaultOf : Operator → Option ℤ → ℤ
-defaultOf op none = pos 0
-defaultOf op (some d) = d
+-- the default that `p OP` alone means: a full score for `min` and `mul`, 0 for `sum` and `max`; in a book that begins with `o`, 0 for all
+unfoldable pub missingDefault : Bool → Operator → ℤ
+missingDefault true op = pos 0
+missingDefault false Min = pos 100
+missingDefault false Max = pos 0
+missingDefault false Sum = pos 0
+missingDefault false Mul = pos 100
+
+-- D where it is given
+unfoldable pub defaultOf : Bool → Operator → Option ℤ → ℤ
+defaultOf old op none = missingDefault old op
+defaultOf old op (some d) = d
 
 -- the policy with one rule more
 unfoldable pub withRule : Policy → Rule → Policy
@@ -97,26 +111,36 @@ withExclusion b x = record { policies = b .policies; exclusions = b .exclusions 
 unfoldable pub withCondition : Book → Condition → Book
 withCondition b c = record { policies = b .policies; exclusions = b .exclusions; conditions = b .conditions ++ (c ∷ []) }
 
--- the book with the line added: a policy, an exclusion or a condition at the end, a rule in the last policy
+-- the book with the line added: a policy, an exclusion or a condition at the end, a rule in the last policy; an `o` adds nothing
 unfoldable pub bookWith : BookSoFar → Form → Book
+bookWith so oldZero = so .book
 bookWith so (policy op d) =
-    withPolicies (so .book) (so .book .policies ++ (record { operator = op; default = defaultOf op d; rules = [] } ∷ []))
+    withPolicies (so .book) (so .book .policies ++ (record { operator = op; default = defaultOf (so .old) op d; rules = [] } ∷ []))
 bookWith so (rule s v) = withLast (so .book) (withRule (lastPolicy (so .book)) (record { signal = s; score = v }))
 bookWith so (exclusion a b) = withExclusion (so .book) (record { first = a; second = b })
 bookWith so (condition c t e) = withCondition (so .book) (record { sense = c; threshold = t; expression = e })
 
 -- an `r` may follow a `p` or an `r`
 unfoldable pub opensRules : Form → Bool
+opensRules oldZero = false
 opensRules (policy op d) = true
 opensRules (rule s v) = true
 opensRules (exclusion a b) = false
 opensRules (condition c t e) = false
 
+-- a book that begins with an `o` stays so
+unfoldable pub oldAfter : BookSoFar → Form → Bool
+oldAfter so oldZero = true
+oldAfter so (policy op d) = so .old
+oldAfter so (rule s v) = so .old
+oldAfter so (exclusion a b) = so .old
+oldAfter so (condition c t e) = so .old
+
 -- line n of this form: tried in the order 3 to 6, then added
 unfoldable pub accept : ℕ → BookSoFar → Form → Answer BookSoFar
 accept n so f =
-    require (inPlace so f) 3 n
+    require (inPlace n so f) 3 n
     (require (inCount so f) 4 n
     (require (inRange so f) 5 n
     (require (isNew so f) 6 n
-    (result (record { book = bookWith so f; inRules = opensRules f })))))
+    (result (record { book = bookWith so f; inRules = opensRules f; old = oldAfter so f })))))

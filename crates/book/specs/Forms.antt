@@ -1,4 +1,4 @@
--- The forms of a line (document 01, "The book": `p OP D`, `p OP`, `r S V`, `c T < E`, `c T >= E`; change request 1: `x A B`).
+-- The forms of a line (document 01, "The book": `p OP D`, `p OP`, `r S V`, `c T < E`, `c T >= E`; change request 1: `x A B`; change request 2: `o`).
 use Prim.Native.Nat.{ℕ}
 use mathlib.Core.Bool.{cond}
 use mathlib.Core.List.{List, [], _∷_}
@@ -16,6 +16,8 @@ use Rattle.book.specs.Expressions.{expression}
 
 -- what a line says
 pub data Form : Type 0 where
+  -- `o`
+  oldZero : Form
   -- `p OP D`, or `p OP` with no default given
   policy : Operator → Option ℤ → Form
   -- `r S V`
@@ -87,7 +89,7 @@ conditionLine t c e = do
 -- the form by the fields
 unfoldable pub formOf : List (List ℕ) → Option Form
 formOf [] = none
-formOf (k ∷ []) = none
+formOf (k ∷ []) = if is (bytes "o") k then some oldZero
 formOf (k ∷ a ∷ []) = if is (bytes "p") k then barePolicy a
 formOf (k ∷ a ∷ b ∷ []) =
     cond (is (bytes "p") k) (fullPolicy a b)

@@ -11,7 +11,7 @@ use Rattle.peal.specs.Policies.{Expression}
 use Rattle.peal.specs.declared.Operator.{Operator}
 use Rattle.peal.specs.declared.Sense.{Sense}
 use Rattle.book.specs.Forms.{Form, policy, exclusion, condition}
-use Rattle.book.specs.Acceptance.{BookSoFar, defaultInRange, bookWith, opensRules, accept}
+use Rattle.book.specs.Acceptance.{BookSoFar, defaultInRange, bookWith, opensRules, oldAfter, accept}
 use Rattle.book.specs.Cells.{ExclusionCells}
 use Rattle.book.specs.Codes.{HoldsCodes}
 use Rattle.book.specs.Meaning.{reasonNumber}
@@ -25,11 +25,15 @@ verdictMeaning n (Refused r) so = refused (reasonNumber r) n
 
 -- the book so far with the line added
 unfoldable pub after : BookSoFar → Form → BookSoFar
-after so f = record { book = bookWith so f; inRules = opensRules f }
+after so f = record { book = bookWith so f; inRules = opensRules f; old = oldAfter so f }
 
--- v is the verdict on this form
+-- v is the verdict on this form as line n
+abbrev pub JudgedAt : ℕ → BookSoFar → Form → Verdict → Type 0
+JudgedAt n so f v = verdictMeaning n v (after so f) ≡ accept n so f
+
+-- v is the verdict on this form, whichever line it is
 abbrev pub Judged : BookSoFar → Form → Verdict → Type 0
-Judged so f v = (n : ℕ) → verdictMeaning n v (after so f) ≡ accept n so f
+Judged so f v = (n : ℕ) → JudgedAt n so f v
 
 -- the verdict on a policy, from the counts and whether its default is in range
 abbrev pub PolicyJudged : ℕ → ℕ → Bool → Verdict → Type 0

@@ -6,13 +6,14 @@ use mathlib.Core.Path.{_≡_}
 use lib.ListN.{length, drop}
 use Rattle.arith.specs.Options.{_>>=_}
 use Rattle.book.specs.Expressions.{expression}
-use Rattle.book.specs.Forms.{Form, policy, rule, exclusion, condition, formOf}
-use Rattle.book.specs.declared.lines.Line.the-variants.{Policy, BarePolicy, Rule, Condition, Exclusion}
+use Rattle.book.specs.Forms.{Form, oldZero, policy, rule, exclusion, condition, formOf}
+use Rattle.book.specs.declared.lines.Line.the-variants.{Policy, BarePolicy, Rule, Condition, Exclusion, OldZero}
 use Rattle.book.specs.declared.lines.LineRead.{LineRead}
 use Rattle.book.specs.declared.lines.LineRead.the-variants.{Good, NoForm}
 
 -- the form that was read; a condition's expression is what stands from its start on
 abbrev pub lineMeaning : List ℕ → LineRead → Option Form
+lineMeaning line (Good OldZero) = some oldZero
 lineMeaning line (Good (Policy o d)) = some (policy o (some d))
 lineMeaning line (Good (BarePolicy o)) = some (policy o none)
 lineMeaning line (Good (Rule s v)) = some (rule s v)
@@ -24,6 +25,7 @@ lineMeaning line NoForm = none
 
 -- a condition's expression begins in the line, after six bytes at least
 abbrev pub StartIn : List ℕ → LineRead → Type 0
+StartIn line (Good OldZero) = Unit {0}
 StartIn line (Good (Policy o d)) = Unit {0}
 StartIn line (Good (BarePolicy o)) = Unit {0}
 StartIn line (Good (Rule s v)) = Unit {0}

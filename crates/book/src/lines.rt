@@ -38,12 +38,23 @@ pub enum Line {
         first: u32,
         second: u32,
     },
+    OldZero,
 }
 
 // A line's form, if it has one.
 pub enum LineRead {
     Good(Line),
     NoForm,
+}
+
+// `o`.
+fn one_field(kind: &[u8]) -> LineRead
+    ensures { λ r. ⌜ ((line : List ℕ) → Says line (now (kind .entry) ∷ []) r) ⌝ }
+{
+    if same(kind, b"o") {
+        return LineRead::Good(Line::OldZero);
+    }
+    LineRead::NoForm
 }
 
 // `p OP`.
@@ -128,7 +139,7 @@ pub fn read_line(line: &[u8]) -> LineRead
     let a0 = 0;
     let e0 = field_end(line, a0);
     if e0 == n {
-        return LineRead::NoForm;
+        return one_field(line);
     }
     let a1 = e0 + 1;
     let e1 = field_end(line, a1);

@@ -52,12 +52,13 @@ pub fn read(bytes: &[u8], cells: &mut Cells) -> Checked
         inside: false,
         opened: 0,
         asked: 0,
+        old: false,
     };
     let mut at = 0;
     let mut line = 1;
     while at < n {
         let end = next_byte(bytes, at, 10);
-        let t = take_line(cells, s, &bytes[at..end], end < n);
+        let t = take_line(cells, s, &bytes[at..end], end < n, line == 1);
         let v = t.verdict;
         let Verdict::Fine = v else {
             return passed_up(v, line);

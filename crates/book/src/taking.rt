@@ -20,10 +20,14 @@ ghost use Prim.Native.Nat.{_≤_};
 ghost use mathlib.Core.Path.{_≡_};
 ghost use lib.ListN.{length};
 ghost use Rattle.peal.specs.Policies.{Expression};
+ghost use Rattle.book.specs.Acceptance.{missingDefault};
 ghost use Rattle.book.specs.Codes.{HoldsCodes};
 ghost use Rattle.book.specs.declared.acceptance.Verdict.the-variants.{Refused};
 ghost use Rattle.book.specs.LineMeaning.{StartIn};
-ghost use Rattle.book.specs.Taken.{Kept, PolicyTaken, RuleTaken, ExclusionTaken, ConditionTaken, FormTaken, LineTaken};
+ghost use Rattle.book.specs.Taken.{Kept, OldZeroTaken, PolicyTaken, RuleTaken, ExclusionTaken, ConditionTaken, FormTaken, LineTaken};
+
+// A score of 1.00, in hundredths.
+const FULL_SCORE: i32 = 100;
 
 // The verdict on a line, and what stands so far: with the line where it is fine, and as it was where not.
 pub struct Taken {
@@ -37,6 +41,37 @@ fn refused(s: SoFar, reason: Reason) -> Taken
     Taken {
         verdict: Verdict::Refused(reason),
         so: s,
+    }
+}
+
+// An `o`, which stands only as the first line.
+fn take_old_zero(s: SoFar, top: bool) -> Taken
+    ensures { λ r. ⌜ OldZeroTaken s top r ⌝ }
+{
+    if !top {
+        return refused(s, Reason::OutOfPlace);
+    }
+    let mut so = s;
+    so.inside = false;
+    so.old = true;
+    Taken {
+        verdict: Verdict::Fine,
+        so: so,
+    }
+}
+
+// The default of a policy that gives none; `old` tells whether the book begins with an `o`.
+fn missing_default(old: bool, o: peal::Operator) -> i32
+    ensures { λ r. ⌜ r ≡ missingDefault old o ⌝ }
+{
+    if old {
+        return 0;
+    }
+    match o {
+        peal::Operator::Min => FULL_SCORE,
+        peal::Operator::Max => 0,
+        peal::Operator::Sum => 0,
+        peal::Operator::Mul => FULL_SCORE,
     }
 }
 
@@ -55,6 +90,7 @@ fn take_policy(cells: &mut Cells, s: SoFar, o: peal::Operator, default: i32, ran
                     inside: true,
                     opened: opened + 1,
                     asked: asked,
+                    old: s.old,
                 },
             }
         }
@@ -122,6 +158,7 @@ fn take_condition(
                     inside: false,
                     opened: opened,
                     asked: asked + 1,
+                    old: s.old,
                 },
             }
         }
@@ -129,18 +166,21 @@ fn take_condition(
     }
 }
 
-// A line of at most 128 bytes that was read as `form`. It stands apart from `take_line` so that each form's function is put in
-// place by the back end (docs/DECISIONS.md, D34).
-fn take_form(cells: &mut Cells, s: SoFar, line: &[u8], form: Line) -> Taken
+// A line of at most 128 bytes that was read as `form`; `top` tells whether it is line 1. It stands apart from `take_line` so
+// that each form's function is put in place by the back end (docs/DECISIONS.md, D34).
+fn take_form(cells: &mut Cells, s: SoFar, line: &[u8], top: bool, form: Line) -> Taken
     requires { ⌜ Kept s (now cells) × (length (now line) ≤ 128) × StartIn (now line) (LineRead.Good form) ⌝ }
-    ensures { λ r. ⌜ FormTaken s (now (cells .entry)) (now (line .entry)) form r (now (cells .exit)) ⌝ }
+    ensures { λ r. ⌜ FormTaken s (now (cells .entry)) (now (line .entry)) top form r (now (cells .exit)) ⌝ }
 {
     match form {
         Line::Policy { operator, default } => {
             let ranged = limits::default_in_range(default);
             take_policy(cells, s, operator, default, ranged)
         }
-        Line::BarePolicy { operator } => take_policy(cells, s, operator, 0, true),
+        Line::BarePolicy { operator } => {
+            let default = missing_default(s.old, operator);
+            take_policy(cells, s, operator, default, true)
+        }
         Line::Rule { signal, score } => take_rule(cells, s, signal, score),
         Line::Condition {
             sense,
@@ -156,13 +196,14 @@ fn take_form(cells: &mut Cells, s: SoFar, line: &[u8], form: Line) -> Taken
             }
         }
         Line::Exclusion { first, second } => take_exclusion(cells, s, first, second),
+        Line::OldZero => take_old_zero(s, top),
     }
 }
 
-// A line; `ended` tells whether byte 10 ends it.
-pub fn take_line(cells: &mut Cells, s: SoFar, line: &[u8], ended: bool) -> Taken
+// A line; `ended` tells whether byte 10 ends it, `top` whether it is line 1.
+pub fn take_line(cells: &mut Cells, s: SoFar, line: &[u8], ended: bool, top: bool) -> Taken
     requires { ⌜ Kept s (now cells) ⌝ }
-    ensures { λ r. ⌜ LineTaken s (now (cells .entry)) (now (line .entry)) ended r (now (cells .exit)) ⌝ }
+    ensures { λ r. ⌜ LineTaken s (now (cells .entry)) (now (line .entry)) ended top r (now (cells .exit)) ⌝ }
 {
     if !limits::line_fits(line.len()) {
         return refused(s, Reason::TooLong);
@@ -173,5 +214,5 @@ pub fn take_line(cells: &mut Cells, s: SoFar, line: &[u8], ended: bool) -> Taken
     let LineRead::Good(form) = read_line(line) else {
         return refused(s, Reason::NoForm);
     };
-    take_form(cells, s, line, form)
+    take_form(cells, s, line, top, form)
 }

@@ -17,7 +17,7 @@ room-for-condition-requires c κs = search needs
 returns : tie.Need-returns
 returns c = (
   λ so k e a o d n.
-      accept-4 n so (condition k _ e) (condition-placed so k _ e) (condition-counted so k _ e _ a false (sym (c .before .room-for-condition .ensures) ∙ not-true _ (c .if1 .taken))),
+      accept-4 n so (condition k _ e) (condition-placed so k _ e n) (condition-counted so k _ e _ a false (sym (c .before .room-for-condition .ensures) ∙ not-true _ (c .if1 .taken))),
   not-fine,
 )
 
@@ -37,7 +37,7 @@ ranged c b e =
 returns-2 : tie.Need-returns-2
 returns-2 c = (
   λ so k e a o d n.
-      accept-5 n so (condition k _ e) (condition-placed so k _ e) (condition-counted so k _ e _ a true (room (c .before .before)))
+      accept-5 n so (condition k _ e) (condition-placed so k _ e n) (condition-counted so k _ e _ a true (room (c .before .before)))
       (threshold-out so k _ e (ranged (c .before) false (not-true _ (c .if2 .taken)))),
   not-fine,
 )
@@ -52,7 +52,7 @@ returns-3 : tie.Need-returns-3
 returns-3 c =
     let t = c .before .before in (
       λ so k e a o d n.
-          accept-5 n so (condition k _ e) (condition-placed so k _ e) (condition-counted so k _ e _ a true (room (t .before .before)))
+          accept-5 n so (condition k _ e) (condition-placed so k _ e n) (condition-counted so k _ e _ a true (room (t .before .before)))
           (condition-range so k _ e (ranged (t .before) true (not-false _ (t .if2 .left))) _ o _ false (c .before .mentions-below .ensures e d) (not-true _ (c .if3 .taken))),
       not-fine,
     )
@@ -61,7 +61,7 @@ returns-4 : tie.Need-returns-4
 returns-4 c =
     let t = c .before .before in (
       λ so k e a o d n.
-          accept-fine n so (condition k _ e) (condition-placed so k _ e) (condition-counted so k _ e _ a true (room (t .before .before)))
+          accept-fine n so (condition k _ e) (condition-placed so k _ e n) (condition-counted so k _ e _ a true (room (t .before .before)))
           (condition-range so k _ e (ranged (t .before) true (not-false _ (t .if2 .left))) _ o _ true (c .before .mentions-below .ensures e d) (not-false _ (c .if3 .left)))
           (condition-new so k _ e),
       λ q. ltb-true _ 8 (room (t .before .before)),

@@ -1,4 +1,5 @@
 -- `book::acceptance::judge_exclusion`: each return by the tests that led there.
+use Prim.Native.Nat.{ℕ}
 use mathlib.Core.Bool.{true, false}
 use mathlib.Core.Path.{_≡_, sym, _∙_}
 use borrow.Author.Tests.{not-true, not-false}
@@ -24,8 +25,8 @@ module _ (c : tie.Else2) where
   begin = c .before .before .before .before
 
   module _ (so : BookSoFar) (a : begin .args .asked ≡ length (so .book .conditions)) (x : ExclusionCells (now (begin .args .cells)) (so .book .exclusions)) where
-    placed : inPlace so (exclusion (begin .args .first) (begin .args .second)) ≡ true
-    placed = exclusion-placed so _ _ _ a (c .before .before .before .if1 .left)
+    placed : (n : ℕ) → inPlace n so (exclusion (begin .args .first) (begin .args .second)) ≡ true
+    placed n = exclusion-placed so _ _ n _ a (c .before .before .before .if1 .left)
 
     counted : inCount so (exclusion (begin .args .first) (begin .args .second)) ≡ true
     counted =
@@ -33,14 +34,14 @@ module _ (c : tie.Else2) where
         (sym (c .before .room-for-exclusion .ensures) ∙ not-false _ (c .if2 .left))
 
 returns : tie.Need-returns
-returns c = λ so a x n. accept-3 n so (exclusion _ _) (exclusion-misplaced so _ _ _ a (c .if1 .taken))
+returns c = λ so a x n. accept-3 n so (exclusion _ _) (exclusion-misplaced so _ _ n _ a (c .if1 .taken))
 
 returns-2 : tie.Need-returns-2
 returns-2 c =
     let r = c .before in
     let k = r .before in
     λ so a x n.
-    accept-4 n so (exclusion _ _) (exclusion-placed so _ _ _ a (k .before .if1 .left))
+    accept-4 n so (exclusion _ _) (exclusion-placed so _ _ n _ a (k .before .if1 .left))
     (exclusion-counted so _ _ _ (k .exclusion-count .ensures (so .book .exclusions) x) false (sym (r .room-for-exclusion .ensures) ∙ not-true _ (c .if2 .taken)))
 
 exclusion-in-range-requires : tie.Need-exclusion-in-range-requires
@@ -51,7 +52,7 @@ returns-3 c =
     let r = c .before in
     let k = r .before in
     λ so a x n.
-    accept-5 n so (exclusion _ _) (placed k so a x) (counted k so a x) (exclusion-range so _ _ false (sym (r .exclusion-in-range .ensures) ∙ not-true _ (c .if3 .taken)))
+    accept-5 n so (exclusion _ _) (placed k so a x n) (counted k so a x) (exclusion-range so _ _ false (sym (r .exclusion-in-range .ensures) ∙ not-true _ (c .if3 .taken)))
 
 -- two different signals
 ranged : (c : tie.Else3) (so : BookSoFar) → inRange so (exclusion (begin (c .before .before) .args .first) (begin (c .before .before) .args .second)) ≡ true
@@ -65,14 +66,14 @@ returns-4 c =
     let d = c .before .before in
     let k = d .before .before in
     λ so a x n.
-    accept-6 n so (exclusion _ _) (placed k so a x) (counted k so a x) (ranged d so) (exclusion-new so _ _ _ true (c .before .has-exclusion .ensures (so .book .exclusions) x) (c .if4 .taken))
+    accept-6 n so (exclusion _ _) (placed k so a x n) (counted k so a x) (ranged d so) (exclusion-new so _ _ _ true (c .before .has-exclusion .ensures (so .book .exclusions) x) (c .if4 .taken))
 
 returns-5 : tie.Need-returns-5
 returns-5 c =
     let d = c .before .before in
     let k = d .before .before in
     λ so a x n.
-    accept-fine n so (exclusion _ _) (placed k so a x) (counted k so a x) (ranged d so) (exclusion-new so _ _ _ false (c .before .has-exclusion .ensures (so .book .exclusions) x) (c .if4 .left))
+    accept-fine n so (exclusion _ _) (placed k so a x n) (counted k so a x) (ranged d so) (exclusion-new so _ _ _ false (c .before .has-exclusion .ensures (so .book .exclusions) x) (c .if4 .left))
 
 pub judge-exclusion-spec : {M : Type 1} → statement M
 judge-exclusion-spec =

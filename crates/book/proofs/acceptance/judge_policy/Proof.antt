@@ -10,7 +10,7 @@ use Rattle.book.proofs.acceptance.judge_policy.Statement.{statement}
 use Rattle.book.proofs.acceptance.judge_policy.Tie as tie
 
 returns : tie.Need-returns
-returns c = (λ so o d a p r n. accept-3 n so (policy o d) (policy-misplaced so o d _ a (c .if1 .taken)), not-fine)
+returns c = (λ so o d a p r n. accept-3 n so (policy o d) (policy-misplaced so o d n _ a (c .if1 .taken)), not-fine)
 
 room-for-policy-requires : tie.Need-room-for-policy-requires
 room-for-policy-requires c κs = search needs
@@ -19,7 +19,7 @@ returns-2 : tie.Need-returns-2
 returns-2 c =
     let e = c .before in (
       λ so o d a p r n.
-          accept-4 n so (policy o d) (policy-placed so o d _ a (e .before .if1 .left)) (policy-counted so o d _ p false (sym (e .room-for-policy .ensures) ∙ not-true _ (c .if2 .taken))),
+          accept-4 n so (policy o d) (policy-placed so o d n _ a (e .before .if1 .left)) (policy-counted so o d _ p false (sym (e .room-for-policy .ensures) ∙ not-true _ (c .if2 .taken))),
       not-fine,
     )
 
@@ -30,14 +30,14 @@ room c = sym (c .before .room-for-policy .ensures) ∙ not-false _ (c .if2 .left
 returns-3 : tie.Need-returns-3
 returns-3 c = (
   λ so o d a p r n.
-      accept-5 n so (policy o d) (policy-placed so o d _ a (c .before .before .before .if1 .left)) (policy-counted so o d _ p true (room (c .before))) (policy-range so o d _ false r (not-true _ (c .if3 .taken))),
+      accept-5 n so (policy o d) (policy-placed so o d n _ a (c .before .before .before .if1 .left)) (policy-counted so o d _ p true (room (c .before))) (policy-range so o d _ false r (not-true _ (c .if3 .taken))),
   not-fine,
 )
 
 returns-4 : tie.Need-returns-4
 returns-4 c = (
   λ so o d a p r n.
-      accept-fine n so (policy o d) (policy-placed so o d _ a (c .before .before .before .if1 .left)) (policy-counted so o d _ p true (room (c .before))) (policy-range so o d _ true r (not-false _ (c .if3 .left))) (policy-new so o d),
+      accept-fine n so (policy o d) (policy-placed so o d n _ a (c .before .before .before .if1 .left)) (policy-counted so o d _ p true (room (c .before))) (policy-range so o d _ true r (not-false _ (c .if3 .left))) (policy-new so o d),
   λ e. ltb-true _ 16 (room (c .before)),
 )
 

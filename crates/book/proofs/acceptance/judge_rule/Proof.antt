@@ -1,5 +1,5 @@
 -- `book::acceptance::judge_rule`: each return by the tests that led there.
-use Prim.Native.Nat.{_-_, _≤_}
+use Prim.Native.Nat.{ℕ, _-_, _≤_}
 use mathlib.Core.Bool.{Bool, true, false, not}
 use mathlib.Core.Path.{_≡_, sym, ap, _∙_}
 use denote.Ref.{now}
@@ -18,7 +18,7 @@ use Rattle.book.proofs.acceptance.judge_rule.Statement.{statement}
 use Rattle.book.proofs.acceptance.judge_rule.Tie as tie
 
 returns : tie.Need-returns
-returns c = λ so h n. accept-3 n so (rule _ _) (rule-placed so _ _ _ false (kept-inside _ _ so h) (not-true _ (c .if1 .taken)))
+returns c = λ so h n. accept-3 n so (rule _ _) (rule-placed so _ _ n _ false (kept-inside _ _ so h) (not-true _ (c .if1 .taken)))
 
 -- after a `p` or an `r`
 module _ (c : tie.Else1) where
@@ -50,8 +50,8 @@ module _ (c : tie.After-room-for-rule) where
   inner = c .before .before .before .before
 
   module _ (so : BookSoFar) (h : Holds (begin inner .args .s) (now (begin inner .args .cells)) so) where
-    placed : inPlace so (rule (begin inner .args .signal) (begin inner .args .score)) ≡ true
-    placed = rule-placed so _ _ _ true (kept-inside _ _ so h) (is-inside inner)
+    placed : (n : ℕ) → inPlace n so (rule (begin inner .args .signal) (begin inner .args .score)) ≡ true
+    placed n = rule-placed so _ _ n _ true (kept-inside _ _ so h) (is-inside inner)
 
     operator : c .before .before .operator-at .result ≡ lastPolicy (so .book) .operator
     operator = c .before .before .operator-at .ensures (lastPolicy (so .book)) (last-cells _ _ so h (is-inside inner))
@@ -61,7 +61,7 @@ module _ (c : tie.After-room-for-rule) where
         rule-counted so _ _ _ operator _ (c .before .count-at .ensures (lastPolicy (so .book)) (last-cells _ _ so h (is-inside inner))) b (sym (c .room-for-rule .ensures) ∙ e)
 
 returns-2 : tie.Need-returns-2
-returns-2 c = λ so h n. accept-4 n so (rule _ _) (placed (c .before) so h) (counted (c .before) so h false (not-true _ (c .if2 .taken)))
+returns-2 c = λ so h n. accept-4 n so (rule _ _) (placed (c .before) so h n) (counted (c .before) so h false (not-true _ (c .if2 .taken)))
 
 signal-in-range-requires : tie.Need-signal-in-range-requires
 signal-in-range-requires c κs = search needs
@@ -71,7 +71,7 @@ returns-3 c =
     let f = c .before .before in
     let r = f .before in
     λ so h n.
-    accept-5 n so (rule _ _) (placed r so h) (counted r so h true (not-false _ (f .if2 .left)))
+    accept-5 n so (rule _ _) (placed r so h n) (counted r so h true (not-false _ (f .if2 .left)))
     (signal-out so _ _ _ (operator r so h) (sym (c .before .signal-in-range .ensures) ∙ not-true _ (c .if3 .taken)))
 
 -- the signal is in range
@@ -102,7 +102,7 @@ ranged c so h b e =
 returns-4 : tie.Need-returns-4
 returns-4 c =
     let f = c .before .before in
-    λ so h n. accept-5 n so (rule _ _) (placed (roomy f) so h) (is-counted f so h) (ranged (c .before) so h false (not-true _ (c .if4 .taken)))
+    λ so h n. accept-5 n so (rule _ _) (placed (roomy f) so h n) (is-counted f so h) (ranged (c .before) so h false (not-true _ (c .if4 .taken)))
 
 mask-at-requires : tie.Need-mask-at-requires
 mask-at-requires c κs = kept (inner (roomy (c .before .before)))
@@ -124,14 +124,14 @@ returns-5 c =
     let g = c .before .before .before in
     let f = g .before .before in
     λ so h n.
-    accept-6 n so (rule _ _) (placed (roomy f) so h) (is-counted f so h) (ranged (g .before) so h true (not-false _ (g .if4 .left))) (known (c .before) so h true (c .if5 .taken))
+    accept-6 n so (rule _ _) (placed (roomy f) so h n) (is-counted f so h) (ranged (g .before) so h true (not-false _ (g .if4 .left))) (known (c .before) so h true (c .if5 .taken))
 
 returns-6 : tie.Need-returns-6
 returns-6 c =
     let g = c .before .before .before in
     let f = g .before .before in
     λ so h n.
-    accept-fine n so (rule _ _) (placed (roomy f) so h) (is-counted f so h) (ranged (g .before) so h true (not-false _ (g .if4 .left))) (known (c .before) so h false (c .if5 .left))
+    accept-fine n so (rule _ _) (placed (roomy f) so h n) (is-counted f so h) (ranged (g .before) so h true (not-false _ (g .if4 .left))) (known (c .before) so h false (c .if5 .left))
 
 pub judge-rule-spec : {M : Type 1} → statement M
 judge-rule-spec =

@@ -25,9 +25,16 @@ fourth c = record { within = cut-on _ _ _ (third (c .before .before)); end = c .
 field-end-requires : tie.Need-field-end-requires
 field-end-requires c κs = search needs
 
+one-field-requires : tie.Need-one-field-requires
+one-field-requires c κs = search needs
+
 returns : tie.Need-returns
-unfolding form formOf
-returns c = (rw (one-field _ _ (record { within = omega arith; end = c .before .field-end .ensures; no-more = c .if1 .taken })), tt)
+unfolding form
+returns c =
+    let end = c .before in
+    let fs = one-field _ _ (record { within = omega arith; end = end .before .field-end .ensures; no-more = end .if1 .taken }) in
+    let r = c .one-field .ensures _ in
+    (r .0 ∙ ap formOf (sym fs), r .1)
 
 add-a1 : tie.Need-add-a1
 add-a1 c = omega (arith, cut-on _ _ _ (first c))
@@ -169,6 +176,7 @@ read-line-spec =
     tie.close
     (tie.spec
     field-end-requires
+    one-field-requires
     returns
     add-a1
     field-end-requires-2

@@ -2,7 +2,7 @@
 use Prim.Native.Nat.{ℕ, _+_, _-_, _≤_}
 use mathlib.Core.Bool.{true}
 use mathlib.Core.List.{List}
-use mathlib.Core.Path.{_≡_, sym, _∙_}
+use mathlib.Core.Path.{_≡_, refl, sym, _∙_}
 use native.Mathlib.Omega.{arith}
 use borrow.Author.Tests.{leb-true, not-true, not-false}
 use borrow.Author.Needs.{needs}
@@ -84,7 +84,7 @@ returns-2 c =
     let r = c .before .enum-told2 .given in
     let t = k .take-line in
     tells-refusal (text x) (r .0 .0) (l .loop .line) _ _
-    (going-refused (text x) (l .loop .at) (l .loop .line) _ _ _ g (x .before .loop-test .taken) (x .next-byte .ensures) (t .result) _ (t .ensures (l .loop .line) (g .so) (g .held)) (r .0 .0) (r .1))
+    (going-refused (text x) (l .loop .at) (l .loop .line) _ _ _ g (x .before .loop-test .taken) (x .next-byte .ensures) (t .result) _ (t .ensures (l .loop .line) (g .so) (g .held) refl) (r .0 .0) (r .1))
     (c .passed-up .ensures (r .0 .0) (r .1))
 
 add-at : tie.Need-add-at Inv-loop μ-loop
@@ -107,7 +107,7 @@ loop-again c =
     let g = l .loop .inv .1 in
     let t = k .take-line in (
       omega (arith, l .loop .inv .0, x .next-byte .ensures),
-      going-on (text x) (l .loop .at) (l .loop .line) _ _ _ g (x .before .loop-test .taken) (x .next-byte .ensures) (t .result) _ (t .ensures (l .loop .line) (g .so) (g .held)) (m .enum-told .given .1),
+      going-on (text x) (l .loop .at) (l .loop .line) _ _ _ g (x .before .loop-test .taken) (x .next-byte .ensures) (t .result) _ (t .ensures (l .loop .line) (g .so) (g .held) refl) (m .enum-told .given .1),
     )
 
 returns-3 : tie.Need-returns-3 Inv-loop μ-loop

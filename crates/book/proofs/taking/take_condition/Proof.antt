@@ -56,13 +56,13 @@ returns c =
     let j = m .before .before in
     let s = j .before in
     λ n so e h k.
-    taken-fine n so (condition _ _ e) _ _ (h .bounded) (omega (arith, k .count, s .pre .1, codes-count e)) (judged j so e h k _ (m .enum-told .given .1)) refl (condition-left _ _ so h _ _ e)
+    taken-fine n so (condition _ _ e) _ _ (h .bounded) (omega (arith, k .count, s .pre .1, codes-count e)) (judged j so e h k _ (m .enum-told .given .1) n) refl (condition-left _ _ so h _ _ e)
     (condition-cells _ so _ (c .put-condition .ensures (so .book) _ (h .held) (h .bounded .range) (kept-asked _ _ so h) refl (toZ-ofZ w32 (s .args .threshold) (s .fits .threshold)) k))
 
 returns-2 : tie.Need-returns-2
 returns-2 c =
     let m = c .before .before in
-    λ n so e h k. taken-refused n so (condition _ _ e) _ _ _ (judged (m .before .before) so e h k _ (m .v .given .1)) (c .refused .ensures)
+    λ n so e h k. taken-refused n so (condition _ _ e) _ _ _ (judged (m .before .before) so e h k _ (m .v .given .1) n) (c .refused .ensures)
 
 pub take-condition-spec : {M : Type 1} → statement M
 take-condition-spec =

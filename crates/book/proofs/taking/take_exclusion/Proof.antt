@@ -45,13 +45,13 @@ returns c =
     let m = c .before .before in
     let j = m .before .before in
     λ n so h.
-    taken-fine n so (exclusion _ _) _ _ (h .bounded) tt (judged j so h Fine (m .enum-told .given .1)) refl (exclusion-left _ _ so h _ _)
+    taken-fine n so (exclusion _ _) _ _ (h .bounded) tt (judged j so h Fine (m .enum-told .given .1) n) refl (exclusion-left _ _ so h _ _)
     (exclusion-cells _ so _ _ (c .put-exclusion .ensures (so .book) (h .held) (h .bounded .range)))
 
 returns-2 : tie.Need-returns-2
 returns-2 c =
     let m = c .before .before in
-    λ n so h. taken-refused n so (exclusion _ _) _ _ _ (judged (m .before .before) so h _ (m .v .given .1)) (c .refused .ensures)
+    λ n so h. taken-refused n so (exclusion _ _) _ _ _ (judged (m .before .before) so h _ (m .v .given .1) n) (c .refused .ensures)
 
 pub take-exclusion-spec : {M : Type 1} → statement M
 take-exclusion-spec =

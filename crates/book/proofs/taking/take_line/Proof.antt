@@ -22,13 +22,13 @@ refused-requires : tie.Need-refused-requires
 refused-requires c κs = search needs
 
 returns : tie.Need-returns
-returns c = λ n so h. taken-long n so _ _ _ (sym (c .before .before .line-fits .ensures) ∙ not-true _ (c .before .if1 .taken)) (c .refused .ensures)
+returns c = λ n so h top. taken-long n so _ _ _ (sym (c .before .before .line-fits .ensures) ∙ not-true _ (c .before .if1 .taken)) (c .refused .ensures)
 
 refused-requires-2 : tie.Need-refused-requires-2
 refused-requires-2 c κs = search needs
 
 returns-2 : tie.Need-returns-2
-returns-2 c = λ n so h. taken-open n so _ _ _ (short (c .before .before)) (not-true _ (c .before .if2 .taken)) (c .refused2 .ensures)
+returns-2 c = λ n so h top. taken-open n so _ _ _ (short (c .before .before)) (not-true _ (c .before .if2 .taken)) (c .refused2 .ensures)
 
 -- the line that is read has its end
 whole : (r : tie.After-read-line) → r .before .before .before .before .before .args .ended ≡ true
@@ -50,7 +50,7 @@ returns-3 : tie.Need-returns-3
 returns-3 c =
     let r = c .before .before .before in
     let s = r .before .before .before .before .before in
-    λ n so h.
+    λ n so h top.
     taken-read n so _ _ _ (short (r .before .before)) (whole r) none (sym (r .read-line .ensures .0) ∙ ap (lineMeaning (s .args .line .now)) (c .before .enum-told .given .1))
     (taken-none n so none _ _ refl (c .refused3 .ensures))
 
@@ -66,9 +66,9 @@ returns-4 c =
     let f = c .before .before .before in
     let r = f .before .before in
     let s = r .before .before .before .before .before in
-    λ n so h.
+    λ n so h top.
     taken-read n so _ _ _ (short (r .before .before)) (whole r) _ (sym (r .read-line .ensures .0) ∙ ap (lineMeaning (s .args .line .now)) (f .form .given .1))
-    (c .take-form .ensures n so h)
+    (c .take-form .ensures n so h top)
 
 pub take-line-spec : {M : Type 1} → statement M
 take-line-spec =

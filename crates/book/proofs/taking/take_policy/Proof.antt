@@ -34,7 +34,7 @@ returns c =
     let s = j .before in
     λ n so d h z g.
     let v = judged-as so (policy _ d) _ _ (m .enum-told .given .1) (j .judge-policy .ensures .0 so _ d (kept-asked _ _ so h) (kept-opened _ _ so h) g) in
-    taken-fine n so (policy _ d) _ _ (h .bounded) tt v refl (policy-left _ _ so h _ d)
+    taken-fine n so (policy _ d) _ _ (h .bounded) tt (v n) refl (policy-left _ _ so h _ d)
     (policy-cells _ so _ d _ (toZ-ofZ w32 (s .args .default) (s .fits .default) ∙ z) (c .put-policy .ensures (so .book) (h .held) (h .bounded .range) (kept-opened _ _ so h)))
 
 returns-2 : tie.Need-returns-2
@@ -42,7 +42,7 @@ returns-2 c =
     let m = c .before .before in
     let j = m .before .before in
     λ n so d h z g.
-    taken-refused n so (policy _ d) _ _ _ (judged-as so (policy _ d) _ _ (m .v .given .1) (j .judge-policy .ensures .0 so _ d (kept-asked _ _ so h) (kept-opened _ _ so h) g))
+    taken-refused n so (policy _ d) _ _ _ (judged-as so (policy _ d) _ _ (m .v .given .1) (j .judge-policy .ensures .0 so _ d (kept-asked _ _ so h) (kept-opened _ _ so h) g) n)
     (c .refused .ensures)
 
 pub take-policy-spec : {M : Type 1} → statement M

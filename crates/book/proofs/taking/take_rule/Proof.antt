@@ -64,14 +64,14 @@ returns c =
     let s = begin m in
     λ n so h.
     let v = fine m so h in
-    taken-fine n so (rule _ _) _ _ (h .bounded) tt v refl (rule-left _ _ so h _ _ v)
+    taken-fine n so (rule _ _) _ _ (h .bounded) tt (v n) refl (rule-left _ _ so h _ _ v)
     (rule-cells _ so _ _ _ (toZ-ofZ w32 (s .args .score) (s .fits .score))
     (c .put-rule .ensures (so .book) (h .held) (h .bounded .range) (omega (arith, kept-opened _ _ so h, some-opened _ _ so h (inside m)))))
 
 returns-2 : tie.Need-returns-2
 returns-2 c =
     let m = c .before .before in
-    λ n so h. taken-refused n so (rule _ _) _ _ _ (judged (m .before .before) so h _ (m .v .given .1)) (c .refused .ensures)
+    λ n so h. taken-refused n so (rule _ _) _ _ _ (judged (m .before .before) so h _ (m .v .given .1) n) (c .refused .ensures)
 
 pub take-rule-spec : {M : Type 1} → statement M
 take-rule-spec =

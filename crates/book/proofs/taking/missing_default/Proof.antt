@@ -1,0 +1,41 @@
+-- `book::taking::missing_default`: by the mark and the operator.
+use mathlib.Core.Path.{sym, ap₂}
+use borrow.Author.Needs.{needs}
+use Rattle.book.specs.Acceptance.{missingDefault}
+use Rattle.book.proofs.taking.missing_default.Statement.{statement}
+use Rattle.book.proofs.taking.missing_default.Tie as tie
+
+returns : tie.Need-returns
+unfolding missingDefault
+returns c = rw (c .if1 .taken)
+
+enum-told : tie.Need-enum-told
+enum-told c = search needs
+
+enum-told-2 : tie.Need-enum-told-2
+enum-told-2 c = search needs
+
+enum-told-3 : tie.Need-enum-told-3
+enum-told-3 c = search needs
+
+enum-told-4 : tie.Need-enum-told-4
+enum-told-4 c = search needs
+
+returns-2 : tie.Need-returns-2
+unfolding missingDefault
+returns-2 c = sym (ap₂ missingDefault (c .before .before .if1 .left) (c .enum-told .given .1))
+
+returns-3 : tie.Need-returns-3
+unfolding missingDefault
+returns-3 c = sym (ap₂ missingDefault (c .before .before .if1 .left) (c .enum-told2 .given .1))
+
+returns-4 : tie.Need-returns-4
+unfolding missingDefault
+returns-4 c = sym (ap₂ missingDefault (c .before .before .if1 .left) (c .enum-told3 .given .1))
+
+returns-5 : tie.Need-returns-5
+unfolding missingDefault
+returns-5 c = sym (ap₂ missingDefault (c .before .before .if1 .left) (c .enum-told4 .given .1))
+
+pub missing-default-spec : {M : Type 1} → statement M
+missing-default-spec = tie.close (tie.spec returns enum-told enum-told-2 enum-told-3 enum-told-4 returns-2 returns-3 returns-4 returns-5)
