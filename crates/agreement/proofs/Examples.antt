@@ -1,11 +1,15 @@
 -- Computed examples of the rod's reading of a condition just compiled, and of what rod and logger say of it.
 use Prim.Native.Nat.{ℕ}
+use Prim.Native.String.{String, _++_}
 use mathlib.Core.Bool.{Bool, true, false}
 use mathlib.Core.List.{[], _∷_}
 use mathlib.Core.Path.{_≡_, refl}
+use lib.ListN.{replicate}
 use Rattle.answers.specs.Answers.{Answer, result, refused}
 use Rattle.rod.specs.Computing.{rodComputes}
 use Rattle.book.specs.Text.{bytes}
+use Rattle.score.specs.Decisions.{scoredAnswer}
+use Rattle.score.specs.Computing.{scoreComputes}
 use Rattle.compiler.specs.Computing.{compilerComputes}
 use Rattle.agreement.specs.CompiledReading.{compiledReading}
 use Rattle.agreement.specs.Both.{Sayings, bothSay}
@@ -48,3 +52,28 @@ no-room = refl
 not-in-book : both 1 3 0 ≡ refused 7 0
 unfolding bothSay compilerComputes
 not-in-book = refl
+
+-- ---- a missing default: the rod and the logger go by the one in force
+
+-- a `min` and a `mul` policy that leave it out
+doubts : String
+doubts = "p min\nr 0 40\np mul\nr 1 40\nc 20 < min(p0,p1)\n"
+
+-- what the rod says of the compiled listing, and the logger of the book
+abbrev say : String → ℕ → Answer Bool × Answer Bool
+say book set = (compiledReading (bytes book) 0 set (replicate 20 9), scoredAnswer (bytes book) 0 set)
+
+-- with no rule present both policies score 100
+missing-yes : say doubts 0 ≡ (result true, result true)
+unfolding doubts compiledReading compilerComputes rodComputes scoreComputes
+missing-yes = refl
+
+-- after an `o` they score 0
+missing-old-no : say ("o\n" ++ doubts) 0 ≡ (result false, result false)
+unfolding doubts compiledReading compilerComputes rodComputes scoreComputes
+missing-old-no = refl
+
+-- with both rules present the default does not count
+missing-old-yes : say ("o\n" ++ doubts) 3 ≡ (result true, result true)
+unfolding doubts compiledReading compilerComputes rodComputes scoreComputes
+missing-old-yes = refl

@@ -23,7 +23,7 @@ use Rattle.exports.proofs.Refusals.{Refuses, never, by, tried, on-resul
 accepting : (most n : ℕ) (so : BookSoFar) (f : Form) → n ≤ most → Refuses 1 8 most (accept n so f)
 unfolding accept
 accepting most n so f h =
-    tried (inPlace so f) (omega arith)
+    tried (inPlace n so f) (omega arith)
     (λ _. tried (inCount so f) (omega arith) (λ _. tried (inRange so f) (omega arith) (λ _. tried (isNew so f) (omega arith) (λ _. never _))))
 
 by-form : (most n : ℕ) (so : BookSoFar) (o : Option Form) → n ≤ most → Refuses 1 8 most (acceptForm n so o)

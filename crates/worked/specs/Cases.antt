@@ -1,4 +1,5 @@
--- "One book in full", cases a to j of "Corners held fast" in the order of the table, and a book with an excluded pair: each one computed comparison.
+-- "One book in full", cases a to j of "Corners held fast" in the order of the table, a book with an excluded pair, and case j with its default left out:
+-- each one computed comparison.
 use Prim.Native.String.{String, _++_}
 use mathlib.Core.Path.{_≡_, refl}
 use mathlib.Core.List.{[], _∷_}
@@ -90,8 +91,8 @@ case-i : decides belowZero 0 & decides belowZero 1 & listing belowZero
 unfolding belowZero allCompute
 case-i = refl
 
--- j: `p min`, no rules, `c 0 < p0`: one record 18 0 0 0
-case-j : listing "p min\nc 0 < p0\n" ≡ result (18 ∷ 0 ∷ 0 ∷ 0 ∷ [])
+-- j, as change request 2 has it: `p min 0`, no rules, `c 0 < p0`: one record 18 0 0 0
+case-j : listing "p min 0\nc 0 < p0\n" ≡ result (18 ∷ 0 ∷ 0 ∷ 0 ∷ [])
 unfolding allCompute
 case-j = refl
 
@@ -116,3 +117,18 @@ pairs-words = refl
 pairs-choice : chooses apart & decides apart 3 ≡ result (both 5 0) & W.yes
 unfolding apart allCompute
 pairs-choice = refl
+
+-- ---- change request 2: a missing default
+
+-- case j with its default left out: a full score, so yes with no rule present
+unfoldable pub missing : String
+missing = "p min\nc 0 < p0\n"
+
+missing-full : listing missing & decides missing 0 ≡ result (19 ∷ 0 ∷ 0 ∷ 0 ∷ []) & W.yes
+unfolding missing allCompute
+missing-full = refl
+
+-- after an `o` it is the old zero, and the listing is case j's
+missing-old : listing ("o\n" ++ missing) & decides ("o\n" ++ missing) 0 ≡ result (18 ∷ 0 ∷ 0 ∷ 0 ∷ []) & W.no
+unfolding missing allCompute
+missing-old = refl

@@ -34,7 +34,7 @@ pub fn sum_book(rules: usize) -> String {
 
 /// The same with a second policy that never lets the condition be met, so that every set is walked.
 pub fn never_book(rules: usize) -> String {
-    format!("{}p min\nc {} < min(p0,p1)\n", policy("sum", rules, |_| 1), rules / 2 - 1)
+    format!("{}p min 0\nc {} < min(p0,p1)\n", policy("sum", rules, |_| 1), rules / 2 - 1)
 }
 
 /// A sum of so many scores of 100 and a little more: a limit just below N hundred asks for N rules. What is above 100
@@ -71,7 +71,7 @@ pub fn exclusions() -> String {
 
 /// 15 mentions of one sum, and again one that never lets the condition be met.
 pub fn never_mentions(rules: usize) -> String {
-    format!("{}p min\nc {} < min({},p1)\n", policy("sum", rules, |_| 1), rules / 2 - 1, mentions(15, 1))
+    format!("{}p min 0\nc {} < min({},p1)\n", policy("sum", rules, |_| 1), rules / 2 - 1, mentions(15, 1))
 }
 
 /// 16 mentions of one sum.

@@ -5,7 +5,7 @@ use crate::inputs::random::{Random, rounds};
 use crate::inputs::{Inside, books, damage};
 use crate::reference;
 use crate::tally::Tally;
-use cerahupo::{Decision, Refusal};
+use cerahupo::{Counts, Decision, Refusal};
 
 /// A book inside other bytes that would change it if they were read.
 fn book(random: &mut Random) -> Inside<u8> {
@@ -37,6 +37,19 @@ fn count_exclusion(refusal: Refusal, book: &[u8], tally: &mut Tally) {
     }
 }
 
+/// Counts an accepted book that begins with `o`; and a refused line that does, a second one apart.
+fn count_old_zero(answer: Result<Counts, Refusal>, book: &[u8], tally: &mut Tally) {
+    let begins_with_o = book.starts_with(b"o\n");
+    let Err(Refusal { number, value }) = answer else {
+        return tally.count(if begins_with_o { "accepted with o" } else { "accepted without o" });
+    };
+    let refused = book.split(|&byte| byte == b'\n').nth((value as usize).wrapping_sub(1)).unwrap_or_default();
+    if refused.starts_with(b"o") {
+        let again = if begins_with_o && number == 3 { "a second " } else { "" };
+        tally.count(&format!("refusal {number} at {again}o"));
+    }
+}
+
 #[test]
 fn check() {
     let mut random = Random::of("check");
@@ -45,6 +58,7 @@ fn check() {
         let book = book(&mut random);
         let answer = agreed::check(book.slice());
         tally.count_answer(answer, |_| "accepted");
+        count_old_zero(answer, book.slice(), &mut tally);
         if let Err(refusal) = answer {
             count_exclusion(refusal, book.slice(), &mut tally);
         }
@@ -64,6 +78,11 @@ fn check() {
         "refusal 4 at x before 5",
         "refusal 5 at x",
         "refusal 6 at x",
+        "accepted with o",
+        "accepted without o",
+        "refusal 2 at o",
+        "refusal 3 at o",
+        "refusal 3 at a second o",
     ]);
 }
 
@@ -79,6 +98,17 @@ fn check_of_plain_corners() {
     }
 }
 
+/// Counts a decision that would be another one with an `o` in front, or without the one that is there.
+fn count_default(decision: Decision, book: &[u8], condition: u32, set: u16, tally: &mut Tally) {
+    let (other, kind) = match book.strip_prefix(b"o\n") {
+        Some(rest) => (rest.to_vec(), "another answer without o"),
+        None => ([b"o\n", book].concat(), "another answer with o"),
+    };
+    if reference::decide(&other, condition, set).is_ok_and(|answer| answer != decision) {
+        tally.count(kind);
+    }
+}
+
 #[test]
 fn decide() {
     let mut random = Random::of("decide");
@@ -87,10 +117,15 @@ fn decide() {
         let book = book(&mut random);
         let conditions = reference::check(book.slice()).map_or(1, |counts| counts.conditions);
         let condition = books::condition_number(conditions, &mut random);
-        tally.count_answer(agreed::decide(book.slice(), condition, random.set()), |decision| match decision {
+        let set = random.set();
+        let answer = agreed::decide(book.slice(), condition, set);
+        tally.count_answer(answer, |decision| match decision {
             Decision::Yes => "yes",
             Decision::No => "no",
         });
+        if let Ok(decision) = answer {
+            count_default(decision, book.slice(), condition, set, &mut tally);
+        }
     }
     tally.finish(&[
         "yes",
@@ -102,5 +137,7 @@ fn decide() {
         "refusal 5",
         "refusal 6",
         "refusal 7",
+        "another answer with o",
+        "another answer without o",
     ]);
 }

@@ -1,4 +1,4 @@
-//! Document 01's book in full and its corners a to j, by the calls and by the reference.
+//! Document 01's book in full and its corners a to j as the change requests amend them, by the calls and by the reference.
 
 use crate::agreed;
 use crate::inputs::Inside;
@@ -56,7 +56,7 @@ fn corners_of_single_rules() {
     let book = with("p max -5\nr 0 -20\n", "c -10 < p0");
     assert_eq!([say(&book, 0), say(&book, 1)], [Yes, No]);
     assert_eq!(listing(&book), [17, 1, 0, 0]);
-    assert_eq!(listing(&with("p min\n", "c 0 < p0")), [18, 0, 0, 0]);
+    assert_eq!(listing(&with("p min 0\n", "c 0 < p0")), [18, 0, 0, 0]);
 }
 
 /// Change request 1: the pair stands in front, the choice check passes over set 3, and rod and logger say yes on it.
@@ -67,4 +67,18 @@ fn signals_apart() {
     assert_eq!(words, [5, 3, 0, 2, 16, 7, 3, 0, 4, 5, 0, 4, 4, 3, 0, 5, 4, 6, 0, 0]);
     assert_eq!(agreed::choice(&words), Ok(Choice::Both { yes: 5, no: 0 }));
     assert_eq!(say(book, 3), Yes);
+}
+
+/// Change request 2: corner j with its default left out, and the same book after an `o`; and all four operators.
+#[test]
+fn missing_defaults() {
+    let (bare, old) = (with("p min\n", "c 0 < p0"), with("o\np min\n", "c 0 < p0"));
+    assert_eq!((listing(&bare), say(&bare, 0)), (vec![19, 0, 0, 0], Yes));
+    assert_eq!((listing(&old), say(&old, 0)), (vec![18, 0, 0, 0], No));
+    for (operator, default) in [("min", 100), ("max", 0), ("sum", 0), ("mul", 100)] {
+        let says =
+            |mark: &str, threshold: i32| say(format!("{mark}p {operator}\nr 0 50\nc {threshold} < p0\n").as_bytes(), 0);
+        assert_eq!([says("", default - 1), says("", default)], [Yes, No], "{operator}");
+        assert_eq!([says("o\n", -1), says("o\n", 0)], [Yes, No], "{operator} after an o");
+    }
 }

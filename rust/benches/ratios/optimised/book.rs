@@ -45,6 +45,8 @@ pub struct Book {
     /// The masks of the excluded pairs.
     pub pairs: Vec<u16>,
     pub conditions: Vec<Condition>,
+    /// Whether it begins with `o`.
+    old_zero: bool,
 }
 
 impl Book {
@@ -56,6 +58,11 @@ impl Book {
         let mut rest = bytes;
         let mut line = 0;
         let mut rules_may_follow = false;
+        if let Some(below) = bytes.strip_prefix(b"o\n") {
+            book.old_zero = true;
+            rest = below;
+            line = 1;
+        }
         while !rest.is_empty() {
             line += 1;
             let length = rest.iter().position(|&byte| byte == b'\n').unwrap_or(rest.len());
@@ -99,6 +106,7 @@ impl Book {
                 *rules_may_follow = false;
                 Ok(())
             }
+            b"o" => Err(3),
             _ => Err(2),
         }
     }
@@ -106,6 +114,7 @@ impl Book {
     fn take_policy(&mut self, mut fields: Cursor) -> Result<(), u8> {
         let operator = fields.operator().ok_or(2)?;
         let default = match fields.bytes {
+            [] if matches!(operator, Operator::Min | Operator::Mul) && !self.old_zero => 100,
             [] => 0,
             _ => fields.byte(b' ').and_then(|()| fields.number()).ok_or(2)?,
         };

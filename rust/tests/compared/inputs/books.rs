@@ -24,7 +24,8 @@ pub fn valid(random: &mut Random) -> Vec<u8> {
         2 => Style::Equal(random.within(0..=100)),
         _ => Style::Edges,
     };
-    let mut text = String::new();
+    let old_zero = random.one_in(4);
+    let mut text = String::from(if old_zero { "o\n" } else { "" });
     let count = if random.one_in(16) { 0 } else { 1 + random.mostly_few(15) };
     let mut exclusions = exclusions(random);
     let mut policies = Vec::new();
@@ -32,7 +33,7 @@ pub fn valid(random: &mut Random) -> Vec<u8> {
         while random.one_in(3) {
             text += &exclusions.pop().unwrap_or_default();
         }
-        policies.push(put_policy(&mut text, style, random));
+        policies.push(put_policy(&mut text, old_zero, style, random));
     }
     text += &exclusions.concat();
     if !policies.is_empty() {
@@ -53,13 +54,15 @@ fn exclusions(random: &mut Random) -> Vec<String> {
     pairs.into_iter().map(line).collect()
 }
 
-fn put_policy(text: &mut String, style: Style, random: &mut Random) -> Policy {
+fn put_policy(text: &mut String, old_zero: bool, style: Style, random: &mut Random) -> Policy {
     let operator = *random.pick(&["min", "max", "sum", "mul"]);
-    let default = if random.one_in(4) { 0 } else { score(style, -10_000, 10_000, random) };
-    match default {
-        0 if random.one_in(2) => *text += &format!("p {operator}\n"),
-        _ => *text += &format!("p {operator} {default}\n"),
-    }
+    let (line, default) = if random.one_in(4) {
+        (format!("p {operator}\n"), if old_zero || ["max", "sum"].contains(&operator) { 0 } else { 100 })
+    } else {
+        let default = if random.one_in(8) { 0 } else { score(style, -10_000, 10_000, random) };
+        (format!("p {operator} {default}\n"), default)
+    };
+    *text += &line;
     let (least, most) = match operator {
         "sum" => (0, 10_000),
         "mul" => (0, 100),

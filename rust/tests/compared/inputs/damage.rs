@@ -21,14 +21,14 @@ pub fn damaged(random: &mut Random) -> Vec<u8> {
 
 /// Words of books in any order.
 pub fn soup(random: &mut Random) -> Vec<u8> {
-    const WORDS: &str = "p |r |x |c |p|min|max|sum|mul|min(|,|)|p0|p1|<|>=| |0|1|15|16|-|100|\n|\n|\r";
-    const LINES: &str = "\np sum\n|r 1 1\n|x 0 1\n|x 1 0\n|c 0 < p0\n";
+    const WORDS: &str = "p |r |x |c |o|p|min|max|sum|mul|min(|,|)|p0|p1|<|>=| |0|1|15|16|-|100|\n|\n|\r";
+    const LINES: &str = "o\n|\np sum\n|p min\n|r 1 1\n|x 0 1\n|x 1 0\n|c 0 < p0\n";
     let words: Vec<&str> = [WORDS, LINES].iter().flat_map(|text| text.split('|')).collect();
     (0..random.below(20)).flat_map(|_| random.pick(&words).bytes()).collect()
 }
 
 fn damage_byte(mut book: Vec<u8>, random: &mut Random) -> Vec<u8> {
-    const BYTES: &[u8] = b"\n\n  0019-+.,()<>=pqrcminaxsul\r\t\0P\x80\xff";
+    const BYTES: &[u8] = b"\n\n  0019-+.,()<>=pqrcominaxsul\r\t\0P\x80\xff";
     let byte = if random.one_in(8) { random.next() as u8 } else { *random.pick(BYTES) };
     let place = random.below(book.len() + 1);
     match random.below(4) {
@@ -74,7 +74,8 @@ fn damage_field(book: Vec<u8>, random: &mut Random) -> Vec<u8> {
 }
 
 fn damage_lines(book: Vec<u8>, random: &mut Random) -> Vec<u8> {
-    const LINES: &str = "\n|r 3 1\n|p mul\n|x 2 1\n|x 3 3\n|x 16 2\n|x 2 16\n|c 0 < p0\n|c 1 >= p16\n";
+    const LINES: &str =
+        "\n|o\n|o\n|o 1\n|o \n|r 3 1\n|p mul\n|x 2 1\n|x 3 3\n|x 16 2\n|x 2 16\n|c 0 < p0\n|c 1 >= p16\n";
     let mut lines = lines_of(&book);
     if lines.is_empty() {
         return b"\n".to_vec();
@@ -136,17 +137,20 @@ fn too_many(book: Vec<u8>, random: &mut Random) -> Vec<u8> {
             (0..rules).fold(format!("p {operator}\n"), |text, signal| text + &format!("r {signal} 1\n"))
         }
     };
-    [front.into_bytes(), book].concat()
+    let (old_zero, rest) = book.split_at(if book.starts_with(b"o\n") { 2 } else { 0 });
+    [old_zero, front.as_bytes(), rest].concat()
 }
 
-/// Puts exclusions in front or before the first condition; the last one may also be out of range, or repeat a pair.
+/// Puts exclusions in front, but after an `o`, or before the first condition; the last one may also be out of range, or repeat a
+/// pair.
 fn with_exclusions(mut lines: Vec<Vec<u8>>, numbers: Range<usize>, random: &mut Random) -> Vec<u8> {
     let mut more: Vec<String> = numbers.map(|pair| format!("x {} {}\n", pair % 4, 4 + pair / 4)).collect();
     if random.one_in(2) && more.pop().is_some() {
         more.push(random.pick(&["x 3 3\n", "x 16 2\n", "x 2 16\n", "x 4 0\n"]).to_string());
     }
     let before_conditions = lines.iter().position(|line| line.starts_with(b"c")).unwrap_or(lines.len());
-    let place = if random.one_in(2) { 0 } else { before_conditions };
+    let after_old_zero = usize::from(lines.first().is_some_and(|line| line == b"o\n"));
+    let place = if random.one_in(2) { after_old_zero } else { before_conditions };
     lines.splice(place..place, more.into_iter().map(String::into_bytes));
     lines.concat()
 }

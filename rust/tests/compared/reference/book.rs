@@ -50,7 +50,8 @@ pub struct Book {
 }
 
 enum Form {
-    Policy(Policy),
+    OldZero,
+    Policy(Operator, Option<i64>),
     Rule(Rule),
     Exclusion([i64; 2]),
     Condition(Condition),
@@ -61,9 +62,10 @@ pub fn read(bytes: &[u8]) -> Result<Book, Refusal> {
         return refused(1, 0);
     }
     let mut book = Book::default();
+    let old_zero = bytes.starts_with(b"o\n");
     let mut rule_may_follow = false;
-    for (above, line) in bytes.split_inclusive(|&byte| byte == 10).enumerate() {
-        match take_line(&mut book, rule_may_follow, line) {
+    for (above, line) in bytes.split_inclusive(|&byte| byte == 10).enumerate().skip(old_zero as usize) {
+        match take_line(&mut book, old_zero, rule_may_follow, line) {
             Ok(may) => rule_may_follow = may,
             Err(number) => return refused(number, above + 1),
         }
@@ -71,8 +73,9 @@ pub fn read(bytes: &[u8]) -> Result<Book, Refusal> {
     Ok(book)
 }
 
-/// Adds a line, with its end if it has one; tells whether a rule may follow, or the number that refuses the line.
-fn take_line(book: &mut Book, rule_may_follow: bool, line: &[u8]) -> Result<bool, u8> {
+/// Adds a line, with its end if it has one, but not the `o` that a book may begin with; tells whether a rule may follow, or
+/// the number that refuses the line.
+fn take_line(book: &mut Book, old_zero: bool, rule_may_follow: bool, line: &[u8]) -> Result<bool, u8> {
     let ended = line.last() == Some(&10);
     let text = if ended { &line[..line.len() - 1] } else { line };
     if text.len() > 128 {
@@ -80,7 +83,11 @@ fn take_line(book: &mut Book, rule_may_follow: bool, line: &[u8]) -> Result<bool
     }
     let form = if ended { form(text) } else { None };
     match form.ok_or(2)? {
-        Form::Policy(policy) => add_policy(book, policy)?,
+        Form::OldZero => return Err(3),
+        Form::Policy(operator, default) => {
+            let default = default.unwrap_or(if old_zero { 0 } else { missing_default(operator) });
+            add_policy(book, Policy { operator, default, rules: Vec::new() })?
+        }
         Form::Rule(rule) if rule_may_follow => add_rule(book.policies.last_mut().ok_or(3)?, rule)?,
         Form::Rule(_) => return Err(3),
         Form::Exclusion(signals) => {
@@ -93,6 +100,14 @@ fn take_line(book: &mut Book, rule_may_follow: bool, line: &[u8]) -> Result<bool
         }
     }
     Ok(true)
+}
+
+/// The default of a policy that gives none, in a book that does not begin with `o`.
+fn missing_default(operator: Operator) -> i64 {
+    match operator {
+        Operator::Min | Operator::Mul => 100,
+        Operator::Sum | Operator::Max => 0,
+    }
 }
 
 fn add_policy(book: &mut Book, policy: Policy) -> Result<(), u8> {
@@ -150,8 +165,9 @@ fn belongs(expression: &Expression, policies: i64) -> bool {
 fn form(line: &[u8]) -> Option<Form> {
     let text = std::str::from_utf8(line).ok()?;
     match text.split(' ').collect::<Vec<_>>()[..] {
-        ["p", name] => policy(name, 0),
-        ["p", name, default] => policy(name, number(default)?),
+        ["o"] => Some(Form::OldZero),
+        ["p", name] => Some(Form::Policy(operator(name)?, None)),
+        ["p", name, default] => Some(Form::Policy(operator(name)?, Some(number(default)?))),
         ["r", signal, score] => Some(Form::Rule(Rule { signal: natural(signal)?, score: number(score)? })),
         ["x", first, second] => Some(Form::Exclusion([natural(first)?, natural(second)?])),
         ["c", threshold, "<", set] => condition(threshold, Sense::Less, set),
@@ -160,15 +176,14 @@ fn form(line: &[u8]) -> Option<Form> {
     }
 }
 
-fn policy(name: &str, default: i64) -> Option<Form> {
-    let operator = match name {
-        "min" => Operator::Min,
-        "max" => Operator::Max,
-        "sum" => Operator::Sum,
-        "mul" => Operator::Mul,
-        _ => return None,
-    };
-    Some(Form::Policy(Policy { operator, default, rules: Vec::new() }))
+fn operator(name: &str) -> Option<Operator> {
+    match name {
+        "min" => Some(Operator::Min),
+        "max" => Some(Operator::Max),
+        "sum" => Some(Operator::Sum),
+        "mul" => Some(Operator::Mul),
+        _ => None,
+    }
 }
 
 fn condition(threshold: &str, sense: Sense, set: &str) -> Option<Form> {
