@@ -4,7 +4,8 @@
 //! "Document 01" is the office's scope paper; a signal set is a 16-bit number, signal S its bit S.
 //!
 //! An excluded pair is two signals that never occur together, as a book's line `x A B` says; a listing carries it as a
-//! record of kind 5.
+//! record of kind 5. A policy whose default is left out (`p OP`) has 100 for min and mul, 0 for sum and max; in a book
+//! whose first line is `o`, 0 for all four.
 //!
 //! ```
 //! let book = b"p sum 0\nr 0 40\nr 1 30\nr 2 30\nc 50 < p0\n";

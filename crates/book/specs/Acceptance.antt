@@ -78,7 +78,7 @@ isNew so (rule s v) = not (any (λ (q : Rule). eqb (q .signal) s) (lastPolicy (s
 isNew so (exclusion a b) = not (any (excludes a b) (so .book .exclusions))
 isNew so (condition c t e) = true
 
--- the default that `p OP` alone means: a full score for `min` and `mul`, 0 for `sum` and `max`; in a book that begins with `o`, 0 for all
+-- `p OP` alone: D is 100 for `min` and `mul`, 0 for `max` and `sum`; in a book whose first line is `o` it is 0 for all four
 unfoldable pub missingDefault : Bool → Operator → ℤ
 missingDefault true op = pos 0
 missingDefault false Min = pos 100
@@ -86,7 +86,7 @@ missingDefault false Max = pos 0
 missingDefault false Sum = pos 0
 missingDefault false Mul = pos 100
 
--- D where it is given
+-- D as it is given, or what it means to leave it out
 unfoldable pub defaultOf : Bool → Operator → Option ℤ → ℤ
 defaultOf old op none = missingDefault old op
 defaultOf old op (some d) = d
@@ -115,7 +115,8 @@ withCondition b c = record { policies = b .policies; exclusions = b .exclusions;
 unfoldable pub bookWith : BookSoFar → Form → Book
 bookWith so oldZero = so .book
 bookWith so (policy op d) =
-    withPolicies (so .book) (so .book .policies ++ (record { operator = op; default = defaultOf (so .old) op d; rules = [] } ∷ []))
+    withPolicies (so .book)
+    (so .book .policies ++ (record { operator = op; default = defaultOf (so .old) op d; rules = [] } ∷ []))
 bookWith so (rule s v) = withLast (so .book) (withRule (lastPolicy (so .book)) (record { signal = s; score = v }))
 bookWith so (exclusion a b) = withExclusion (so .book) (record { first = a; second = b })
 bookWith so (condition c t e) = withCondition (so .book) (record { sense = c; threshold = t; expression = e })
@@ -128,7 +129,7 @@ opensRules (rule s v) = true
 opensRules (exclusion a b) = false
 opensRules (condition c t e) = false
 
--- a book that begins with an `o` stays so
+-- whether the first line is an `o`, with the line added: an `o` in place is that line, and no other changes it
 unfoldable pub oldAfter : BookSoFar → Form → Bool
 oldAfter so oldZero = true
 oldAfter so (policy op d) = so .old

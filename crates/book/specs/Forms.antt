@@ -1,4 +1,4 @@
--- The forms of a line (document 01, "The book": `p OP D`, `p OP`, `r S V`, `c T < E`, `c T >= E`; change request 1: `x A B`; change request 2: `o`).
+-- The forms of a line (document 01, "The book": `p OP D`, `p OP`, `r S V`, `c T < E`, `c T >= E`; change request 1: `x A B`; 2: `o`).
 use Prim.Native.Nat.{ℕ}
 use mathlib.Core.Bool.{cond}
 use mathlib.Core.List.{List, [], _∷_}

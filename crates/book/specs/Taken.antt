@@ -56,12 +56,14 @@ RuleJudged s cells signal w v = (so : BookSoFar) → Holds s cells so → Judged
 -- an `o`, taken; `top` tells whether it is line 1
 abbrev pub OldZeroTaken : SoFar → Bool → Taken → Type 0
 OldZeroTaken s top t =
-    (n : ℕ) (so : BookSoFar) (cells : List ℤ) → Holds s cells so → top ≡ eqb n 1 → TakenAs n (accept n so oldZero) t cells
+    (n : ℕ) (so : BookSoFar) (cells : List ℤ) → Holds s cells so → top ≡ eqb n 1
+    → TakenAs n (accept n so oldZero) t cells
 
 -- a policy, a rule, an exclusion, a condition, a form that was read of a line, and a line, taken: the cells are `before`, and then `cells`
 abbrev pub PolicyTaken : SoFar → List ℤ → Operator → ℤ → Bool → Taken → List ℤ → Type 0
 PolicyTaken s before o z ranged t cells =
-    (n : ℕ) (so : BookSoFar) (d : Option ℤ) → Holds s before so → z ≡ defaultOf (so .old) o d → ranged ≡ defaultInRange d → TakenAs n (accept n so (policy o d)) t cells
+    (n : ℕ) (so : BookSoFar) (d : Option ℤ) → Holds s before so → z ≡ defaultOf (so .old) o d → ranged ≡ defaultInRange d
+    → TakenAs n (accept n so (policy o d)) t cells
 
 abbrev pub RuleTaken : SoFar → List ℤ → ℕ → ℤ → Taken → List ℤ → Type 0
 RuleTaken s before signal v t cells = (n : ℕ) (so : BookSoFar) → Holds s before so → TakenAs n (accept n so (rule signal v)) t cells
@@ -75,8 +77,10 @@ ConditionTaken s before c t codes count r cells =
 
 abbrev pub FormTaken : SoFar → List ℤ → List ℕ → Bool → Line → Taken → List ℤ → Type 0
 FormTaken s before text top f t cells =
-    (n : ℕ) (so : BookSoFar) → Holds s before so → top ≡ eqb n 1 → TakenAs n (acceptForm n so (lineMeaning text (Good f))) t cells
+    (n : ℕ) (so : BookSoFar) → Holds s before so → top ≡ eqb n 1
+    → TakenAs n (acceptForm n so (lineMeaning text (Good f))) t cells
 
 abbrev pub LineTaken : SoFar → List ℤ → List ℕ → (ended top : Bool) → Taken → List ℤ → Type 0
 LineTaken s before text ended top t cells =
-    (n : ℕ) (so : BookSoFar) → Holds s before so → top ≡ eqb n 1 → TakenAs n (readLine n so (record { text = text; ended = ended })) t cells
+    (n : ℕ) (so : BookSoFar) → Holds s before so → top ≡ eqb n 1
+    → TakenAs n (readLine n so (record { text = text; ended = ended })) t cells
