@@ -55,7 +55,7 @@ pub read-too-long : (s : List ℕ) → bookFits (length s) ≡ false → read s 
 unfolding read
 read-too-long s h = rw h
 
-read-lines : (s : List ℕ) → bookFits (length s) ≡ true → readLines 1 noLine (textLines s) ≡ read s
+pub read-lines : (s : List ℕ) → bookFits (length s) ≡ true → readLines 1 noLine (textLines s) ≡ read s
 unfolding read
 read-lines s h = rw h
 

@@ -101,7 +101,7 @@ unfolding textLines parted asLines
 no-line = refl
 
 -- a piece with further pieces behind it, and the last piece
-line-before : (p rest : List ℕ) → asLines (p ∷ parted 10 rest) ≡ record { text = p; ended = true } ∷ textLines rest
+pub line-before : (p rest : List ℕ) → asLines (p ∷ parted 10 rest) ≡ record { text = p; ended = true } ∷ textLines rest
 unfolding asLines textLines
 line-before p rest = rw (parted-first 10 rest)
 

@@ -4,6 +4,7 @@ pub mod Expressions
 pub mod Forms
 pub mod Acceptance
 pub mod Books
+pub mod OldBooks
 pub mod Spelling
 pub mod LineMeaning
 pub mod Codes

@@ -1,0 +1,180 @@
+-- Books from before change request 2: an `o` on top keeps their reading, and without one only a `p min` or a `p mul` alone changes it.
+use Prim.Native.Nat.{ℕ, _+_, _≤_}
+use mathlib.Core.Bool.{Bool, true, false}
+use mathlib.Core.List.{List, [], _∷_, _++_}
+use mathlib.Core.Option.{Option, none, some}
+use mathlib.Core.Path.{_≡_, refl, sym, ap, _∙_}
+use native.Mathlib.Omega.{arith}
+use lib.IntN.{ℤ, pos}
+use lib.ListN.{length}
+use borrow.Author.Tests.{le-leb}
+use Rattle.answers.specs.Answers.{Answer, result, refused, onResult, require}
+use Rattle.arith.specs.Lists.{Each}
+use Rattle.peal.specs.Policies.{Book}
+use Rattle.peal.specs.declared.Operator.{Operator}
+use Rattle.peal.specs.declared.Operator.the-variants.{Min, Max, Sum, Mul}
+use Rattle.limits.specs.Limits.{bookFits, lineFits}
+use Rattle.book.specs.Text.{bytes, Line, longer, parted, textLines}
+use Rattle.book.specs.Forms.{Form, oldZero, policy, rule, exclusion, condition, form}
+use Rattle.book.specs.Acceptance.{BookSoFar, noLine, emptyBook, inPlace, inCount, inRange, isNew, defaultInRange, missingDefault, defaultOf, bookWith, opensRules, oldAfter, accept}
+use Rattle.book.specs.Books.{acceptForm, readLine, readLines, read}
+use Rattle.book.specs.Judged.{after}
+use Rattle.book.specs.OldBooks.{readBefore, NoLineOf, lineBelow, OldBooks}
+use Rattle.book.specs.Computing.{bookComputes}
+use Rattle.book.proofs.TextLaws.{line-before}
+use Rattle.book.proofs.RangeLaws.{missing-in-range}
+use Rattle.book.proofs.ReadLaws.{read-lines}
+
+-- the book so far, as it was read before
+older : BookSoFar → BookSoFar
+older so = record { book = so .book; inRules = so .inRules; old = true }
+
+-- ---- an `o` on top: every line is one further down
+
+below-require : {A : Type 0} (t : Bool) (k n : ℕ) (a : Answer A) → require t k (n + 1) (lineBelow a) ≡ lineBelow (require t k n a)
+unfolding lineBelow
+below-require true k n a = refl
+below-require false k n a = refl
+
+below-then : {A B : Type 0} (a : Answer A) (f g : A → Answer B) → ((x : A) → g x ≡ lineBelow (f x)) → onResult (lineBelow a) g ≡ lineBelow (onResult a f)
+unfolding lineBelow
+below-then (result x) f g h = h x
+below-then (refused k v) f g h = refl
+
+-- the place of any line but an `o` does not depend on its number
+same-place : (n : ℕ) (so : BookSoFar) (f : Form) → (f ≡ oldZero → ⊥) → inPlace (n + 1) so f ≡ inPlace n so f
+unfolding inPlace
+same-place n so oldZero h = absurd (h refl)
+same-place n so (policy o d) h = refl
+same-place n so (rule s v) h = refl
+same-place n so (exclusion a b) h = refl
+same-place n so (condition c t e) h = refl
+
+below-accept : (n : ℕ) (so : BookSoFar) (f : Form) → (f ≡ oldZero → ⊥) → accept (n + 1) so f ≡ lineBelow (accept n so f)
+unfolding accept lineBelow
+below-accept n so f h =
+    rw (same-place n so f h)
+    (ap (require (inPlace n so f) 3 (n + 1))
+    (ap (require (inCount so f) 4 (n + 1))
+    (ap (require (inRange so f) 5 (n + 1)) (below-require (isNew so f) 6 n _) ∙ below-require (inRange so f) 5 n _) ∙ below-require (inCount so f) 4 n _)
+    ∙ below-require (inPlace n so f) 3 n _)
+
+below-form : (n : ℕ) (so : BookSoFar) (o : Option Form) → (o ≡ some oldZero → ⊥) → acceptForm (n + 1) so o ≡ lineBelow (acceptForm n so o)
+unfolding acceptForm lineBelow
+below-form n so none h = refl
+below-form n so (some f) h = below-accept n so f (λ e. h (ap some e))
+
+below-line : (n : ℕ) (so : BookSoFar) (l : Line) → (form (l .text) ≡ some oldZero → ⊥) → readLine (n + 1) so l ≡ lineBelow (readLine n so l)
+unfolding readLine
+below-line n so l h =
+    ap (require (lineFits (length (l .text))) 1 (n + 1)) (ap (require (l .ended) 2 (n + 1)) (below-form n so (form (l .text)) h) ∙ below-require (l .ended) 2 n _)
+    ∙ below-require (lineFits (length (l .text))) 1 n _
+
+below-lines : (n : ℕ) (so : BookSoFar) (ls : List Line) → Each (λ (l : Line). form (l .text) ≡ some oldZero → ⊥) ls → readLines (n + 1) so ls ≡ lineBelow (readLines n so ls)
+unfolding readLines lineBelow
+below-lines n so [] h = refl
+below-lines n so (l ∷ ls) h =
+    ap (λ (a : Answer BookSoFar). onResult a (λ next. readLines (n + 1 + 1) next ls)) (below-line n so l (h .0))
+    ∙ below-then (readLine n so l) (λ next. readLines (n + 1) next ls) (λ next. readLines (n + 1 + 1) next ls) (λ next. below-lines (n + 1) next ls (h .1))
+
+-- the lines of a book with an `o` on top
+top-lines : (s : List ℕ) → textLines (bytes "o\n" ++ s) ≡ record { text = bytes "o"; ended = true } ∷ textLines s
+unfolding textLines parted longer
+top-lines s = line-before (bytes "o") s
+
+-- the `o` leaves the old zero
+top-read : (ls : List Line) → readLines 1 noLine (record { text = bytes "o"; ended = true } ∷ ls) ≡ readLines 2 (older noLine) ls
+unfolding bookComputes older
+top-read ls = refl
+
+kept : (s : List ℕ) → NoLineOf oldZero s → length s + 2 ≤ 8192 → read (bytes "o\n" ++ s) ≡ lineBelow (readBefore s)
+unfolding readBefore older noLine
+kept s h room =
+    sym (read-lines (bytes "o\n" ++ s) (le-leb (length (bytes "o\n" ++ s)) 8192 (omega arith)))
+    ∙ ap (readLines 1 noLine) (top-lines s)
+    ∙ top-read (textLines s)
+    ∙ below-lines 1 (older noLine) (textLines s) h
+    ∙ rw (le-leb (length s) 8192 (omega arith))
+
+-- ---- no default of min or mul left out: what it would mean makes no difference
+
+-- a default that is given, or of max or sum
+same-default : (old : Bool) (o : Operator) (d : Option ℤ) → (policy o d ≡ policy Min none → ⊥) → (policy o d ≡ policy Mul none → ⊥) → defaultOf true o d ≡ defaultOf old o d
+unfolding defaultOf missingDefault
+same-default old o (some d) f g = refl
+same-default old Min none f g = absurd (f refl)
+same-default old Mul none f g = absurd (g refl)
+same-default true Max none f g = refl
+same-default false Max none f g = refl
+same-default true Sum none f g = refl
+same-default false Sum none f g = refl
+
+-- the four tests, gone on from
+tests-then : {A B : Type 0} (a b c d : Bool) (n : ℕ) (x : A) (f : A → B)
+    → require a 3 n (require b 4 n (require c 5 n (require d 6 n (result (f x)))))
+    ≡ onResult (require a 3 n (require b 4 n (require c 5 n (require d 6 n (result x))))) (λ y. result (f y))
+tests-then false b c d n x f = refl
+tests-then true false c d n x f = refl
+tests-then true true false d n x f = refl
+tests-then true true true false n x f = refl
+tests-then true true true true n x f = refl
+
+then-require : {A B : Type 0} (t : Bool) (k v : ℕ) (a : Answer A) (f : A → Answer B) → require t k v (onResult a f) ≡ onResult (require t k v a) f
+then-require true k v a f = refl
+then-require false k v a f = refl
+
+older-tests : (n : ℕ) (so : BookSoFar) (f : Form)
+    → require (inPlace n so f) 3 n (require (inCount so f) 4 n (require (inRange so f) 5 n (require (isNew so f) 6 n (result (older (after so f))))))
+    ≡ onResult (accept n so f) (λ next. result (older next))
+unfolding accept after
+older-tests n so f = tests-then (inPlace n so f) (inCount so f) (inRange so f) (isNew so f) n (after so f) older
+
+older-accept : (n : ℕ) (so : BookSoFar) (f : Form) → (f ≡ policy Min none → ⊥) → (f ≡ policy Mul none → ⊥)
+    → accept n (older so) f ≡ onResult (accept n so f) (λ next. result (older next))
+unfolding accept after inPlace inCount inRange isNew bookWith opensRules oldAfter older
+older-accept n so oldZero p q = older-tests n so oldZero
+older-accept n so (policy o d) p q = rw (same-default (so .old) o d p q) (older-tests n so (policy o d))
+older-accept n so (rule s v) p q = older-tests n so (rule s v)
+older-accept n so (exclusion a b) p q = older-tests n so (exclusion a b)
+older-accept n so (condition c t e) p q = older-tests n so (condition c t e)
+
+older-form : (n : ℕ) (so : BookSoFar) (o : Option Form) → (o ≡ some (policy Min none) → ⊥) → (o ≡ some (policy Mul none) → ⊥)
+    → acceptForm n (older so) o ≡ onResult (acceptForm n so o) (λ next. result (older next))
+unfolding acceptForm
+older-form n so none p q = refl
+older-form n so (some f) p q = older-accept n so f (λ e. p (ap some e)) (λ e. q (ap some e))
+
+older-line : (n : ℕ) (so : BookSoFar) (l : Line) → (form (l .text) ≡ some (policy Min none) → ⊥) → (form (l .text) ≡ some (policy Mul none) → ⊥)
+    → readLine n (older so) l ≡ onResult (readLine n so l) (λ next. result (older next))
+unfolding readLine
+older-line n so l p q =
+    ap (require (lineFits (length (l .text))) 1 n) (ap (require (l .ended) 2 n) (older-form n so (form (l .text)) p q) ∙ then-require (l .ended) 2 n _ _)
+    ∙ then-require (lineFits (length (l .text))) 1 n _ _
+
+-- two steps, of which the first only renames
+then-same : {A B C : Type 0} (a : Answer A) (f : A → B) (g : B → Answer C) (h : A → Answer C) → ((x : A) → g (f x) ≡ h x) → onResult (onResult a (λ x. result (f x))) g ≡ onResult a h
+then-same (result x) f g h e = e x
+then-same (refused k v) f g h e = refl
+
+older-lines : (n : ℕ) (so : BookSoFar) (ls : List Line)
+    → Each (λ (l : Line). form (l .text) ≡ some (policy Min none) → ⊥) ls
+    → Each (λ (l : Line). form (l .text) ≡ some (policy Mul none) → ⊥) ls
+    → readLines n (older so) ls ≡ readLines n so ls
+unfolding readLines older
+older-lines n so [] p q = refl
+older-lines n so (l ∷ ls) p q =
+    ap (λ (a : Answer BookSoFar). onResult a (λ next. readLines (n + 1) next ls)) (older-line n so l (p .0) (q .0))
+    ∙ then-same (readLine n so l) older (λ next. readLines (n + 1) next ls) (λ next. readLines (n + 1) next ls) (λ next. older-lines (n + 1) next ls (p .1) (q .1))
+
+unchanged : (s : List ℕ) → NoLineOf (policy Min none) s → NoLineOf (policy Mul none) s → read s ≡ readBefore s
+unfolding read readBefore older noLine
+unchanged s p q = ap (require (bookFits (length s)) 1 0) (sym (older-lines 1 noLine (textLines s) p q))
+
+-- ---- a default written out
+
+written : (n : ℕ) (so : BookSoFar) (o : Operator) → accept n so (policy o none) ≡ accept n so (policy o (some (missingDefault (so .old) o)))
+unfolding accept inPlace inCount inRange isNew bookWith opensRules oldAfter defaultOf defaultInRange
+written n so o = rw (missing-in-range (so .old) o)
+
+pub old-books : OldBooks
+old-books = record { unchanged = unchanged; kept = kept; written = written }

@@ -1,0 +1,41 @@
+-- Claimed: what change request 2 means for books from before it, whose missing defaults were all 0.
+use Prim.Native.Nat.{ℕ, _+_, _≤_}
+use mathlib.Core.Bool.{false, true}
+use mathlib.Core.List.{List, _++_}
+use mathlib.Core.Option.{none, some}
+use mathlib.Core.Path.{_≡_}
+use lib.ListN.{length}
+use Rattle.answers.specs.Answers.{Answer, result, refused, require}
+use Rattle.arith.specs.Lists.{Each}
+use Rattle.peal.specs.Policies.{Book}
+use Rattle.peal.specs.declared.Operator.{Operator}
+use Rattle.peal.specs.declared.Operator.the-variants.{Min, Mul}
+use Rattle.limits.specs.Limits.{bookFits}
+use Rattle.book.specs.Text.{bytes, Line, textLines}
+use Rattle.book.specs.Forms.{Form, oldZero, policy, form}
+use Rattle.book.specs.Acceptance.{BookSoFar, emptyBook, missingDefault, accept}
+use Rattle.book.specs.Books.{readLines, read}
+
+-- reading as it was: every default that is left out is 0
+unfoldable pub readBefore : List ℕ → Answer Book
+readBefore s =
+    require (bookFits (length s)) 1 0
+    (readLines 1 (record { book = emptyBook; inRules = false; old = true }) (textLines s))
+
+-- no line has this form
+abbrev pub NoLineOf : Form → List ℕ → Type 0
+NoLineOf f s = Each (λ (l : Line). form (l .text) ≡ some f → ⊥) (textLines s)
+
+-- the same answer, a refusal told of the line below
+unfoldable pub lineBelow : {A : Type 0} → Answer A → Answer A
+lineBelow (result a) = result a
+lineBelow (refused number line) = refused number (line + 1)
+
+pub record OldBooks : Type 0 where
+  -- a book that leaves out no default of `min` or `mul` is read as it was: the same book, or the same refusal
+  pub unchanged : (s : List ℕ) → NoLineOf (policy Min none) s → NoLineOf (policy Mul none) s → read s ≡ readBefore s
+  -- so is every book with an `o` put above it, which had no form before, if there is room for it
+  pub kept : (s : List ℕ) → NoLineOf oldZero s → length s + 2 ≤ 8192 → read (bytes "o\n" ++ s) ≡ lineBelow (readBefore s)
+  -- and to write the default that was left out comes to the same, in every line of every book
+  pub written : (n : ℕ) (so : BookSoFar) (o : Operator)
+      → accept n so (policy o none) ≡ accept n so (policy o (some (missingDefault (so .old) o)))
