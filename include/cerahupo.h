@@ -6,7 +6,8 @@
  * A book is bytes, a listing is 32-bit words, four a record; docs/OFFICE.md and docs/LISTING.md say what both mean. An excluded
  * pair is two signals that never occur together, as a line `x A B` of the book says; listings carry it as a record of kind 5.
  * A policy whose default is left out (`p OP`) has 100 for min and mul, 0 for sum and max; in a book whose first line is `o`, 0
- * for all four. The library from before change request 2 had 0 for all four in every book, and refuses an `o` (2, line 1).
+ * for all four. A library from before change request 2 has 0 for all four in every book, and refuses an `o` (2, line 1): see
+ * docs/FIRMWARE.md before a logger is brought up to date.
  *
  * Books and listings are handed over as a pointer and a number of elements; with 0 elements the pointer may be anything, NULL
  * too. Every content has an answer: none has to be checked before a call. Nothing is written but the words lent to

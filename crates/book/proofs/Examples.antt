@@ -2,6 +2,7 @@
 use Prim.Native.Nat.{ℕ, zero, suc}
 use Prim.Native.String.{String, _++_}
 use mathlib.Core.List.{[], _∷_}
+use mathlib.Core.Logic.{inl, inr}
 use mathlib.Core.Path.{_≡_, refl}
 use lib.IntN.{ℤ, pos, negsuc}
 use lib.ListN.{replicate}
@@ -11,8 +12,9 @@ use Rattle.peal.specs.Policies.{Rule, Policy, Exclusion, Book, smaller}
 use Rattle.peal.specs.declared.Operator.{Operator}
 use Rattle.peal.specs.declared.Operator.the-variants.{Min, Max, Sum, Mul}
 use Rattle.peal.specs.declared.Sense.the-variants.{Above, AtMost}
-use Rattle.book.specs.Text.{bytes}
+use Rattle.book.specs.Text.{bytes, textLines}
 use Rattle.book.specs.Books.{read, Counts, checked}
+use Rattle.book.specs.OldBooks.{readBefore, lineBelow, ZerosWritten}
 use Rattle.book.specs.Computing.{bookComputes}
 
 -- what a check of a text tells
@@ -402,3 +404,24 @@ old-last = refl
 rule-after-old : outcome "o\nr 0 1\n" ≡ refused 3 2
 unfolding bookComputes
 rule-after-old = refl
+
+-- ---- a book from before the `o`: its 0 written, and as it is
+
+abbrev before : String
+before = "p min\nr 0 70\np sum\nc 0 < min(p0,p1)\n"
+
+abbrev mended : String
+mended = "p min 0\nr 0 70\np sum\nc 0 < min(p0,p1)\n"
+
+zero-written : ZerosWritten (textLines (bytes before)) (textLines (bytes mended))
+unfolding bookComputes
+zero-written = (inr (Min, refl, refl), (inl refl, (inl refl, (inl refl, tt))))
+
+mended-read : read (bytes mended) ≡ readBefore (bytes before)
+unfolding readBefore bookComputes
+mended-read = refl
+
+-- with an `o` above it a refusal names the line below
+kept-refusal : read (bytes "o\np min\nr 16 5\n") ≡ lineBelow (readBefore (bytes "p min\nr 16 5\n"))
+unfolding readBefore lineBelow bookComputes
+kept-refusal = refl

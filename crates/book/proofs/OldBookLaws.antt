@@ -2,6 +2,7 @@
 use Prim.Native.Nat.{ℕ, _+_, _≤_}
 use mathlib.Core.Bool.{Bool, true, false}
 use mathlib.Core.List.{List, [], _∷_, _++_}
+use mathlib.Core.Logic.{⊎-elim}
 use mathlib.Core.Option.{Option, none, some}
 use mathlib.Core.Path.{_≡_, refl, sym, ap, _∙_}
 use native.Mathlib.Omega.{arith}
@@ -9,20 +10,22 @@ use lib.IntN.{ℤ, pos}
 use lib.ListN.{length}
 use borrow.Author.Tests.{le-leb}
 use Rattle.answers.specs.Answers.{Answer, result, refused, onResult, require}
+use Rattle.answers.proofs.Results.{no-refusal, result-is, required}
 use Rattle.arith.specs.Lists.{Each}
 use Rattle.peal.specs.Policies.{Book}
 use Rattle.peal.specs.declared.Operator.{Operator}
 use Rattle.peal.specs.declared.Operator.the-variants.{Min, Max, Sum, Mul}
-use Rattle.limits.specs.Limits.{bookFits, lineFits}
+use Rattle.limits.specs.Limits.{bookFits, lineFits, within}
 use Rattle.book.specs.Text.{bytes, Line, longer, parted, textLines}
 use Rattle.book.specs.Forms.{Form, oldZero, policy, rule, exclusion, condition, form}
-use Rattle.book.specs.Acceptance.{BookSoFar, noLine, emptyBook, inPlace, inCount, inRange, isNew, defaultInRange, missingDefault, defaultOf, bookWith, opensRules, oldAfter, accept}
+use Rattle.book.specs.Acceptance.{BookSoFar, noLine, inPlace, inCount, inRange, isNew, defaultInRange, missingDefault, defaultOf, bookWith, opensRules, oldAfter, accept}
 use Rattle.book.specs.Books.{acceptForm, readLine, readLines, read}
 use Rattle.book.specs.Judged.{after}
-use Rattle.book.specs.OldBooks.{readBefore, NoLineOf, lineBelow, OldBooks}
+use Rattle.book.specs.OldBooks.{readBefore, NoLineOf, lineBelow, bareLine, zeroLine, ZerosWritten, OldBooks}
 use Rattle.book.specs.Computing.{bookComputes}
 use Rattle.book.proofs.TextLaws.{line-before}
-use Rattle.book.proofs.RangeLaws.{missing-in-range}
+use Rattle.book.proofs.JudgeLaws.{accept-fine}
+use Rattle.book.proofs.RangeLaws.{passed}
 use Rattle.book.proofs.ReadLaws.{read-lines}
 
 -- the book so far, as it was read before
@@ -170,11 +173,63 @@ unchanged : (s : List ℕ) → NoLineOf (policy Min none) s → NoLineOf (policy
 unfolding read readBefore older noLine
 unchanged s p q = ap (require (bookFits (length s)) 1 0) (sym (older-lines 1 noLine (textLines s) p q))
 
--- ---- a default written out
+-- ---- the 0 of a missing default written
 
-written : (n : ℕ) (so : BookSoFar) (o : Operator) → accept n so (policy o none) ≡ accept n so (policy o (some (missingDefault (so .old) o)))
-unfolding accept inPlace inCount inRange isNew bookWith opensRules oldAfter defaultOf defaultInRange
-written n so o = rw (missing-in-range (so .old) o)
+-- on a book so far that is read as before
+module _ (n : ℕ) (so : BookSoFar) (old : so .old ≡ true) where
+  zero-accept : (o : Operator) → accept n so (policy o (some (pos 0))) ≡ accept n so (policy o none)
+  unfolding accept inPlace inCount inRange isNew bookWith opensRules oldAfter missingDefault defaultOf defaultInRange within
+  zero-accept o = rw old
+
+  zero-line : (o : Operator) → readLine n so (zeroLine o) ≡ readLine n so (bareLine o)
+  unfolding bookComputes
+  zero-line Min = zero-accept Min
+  zero-line Max = zero-accept Max
+  zero-line Sum = zero-accept Sum
+  zero-line Mul = zero-accept Mul
+
+  old-after : (f : Form) → after so f .old ≡ true
+  unfolding after oldAfter
+  old-after oldZero = refl
+  old-after (policy o d) = old
+  old-after (rule s v) = old
+  old-after (exclusion a b) = old
+  old-after (condition c t e) = old
+
+  accept-old : (f : Form) (next : BookSoFar) → accept n so f ≡ result next → next .old ≡ true
+  accept-old f next h =
+      let p = passed n so next f h in
+      sym (ap (λ (x : BookSoFar). x .old) (result-is (accept-fine n so f (p .place) (p .count) (p .range) (p .new) ∙ h))) ∙ old-after f
+
+  form-old : (o : Option Form) (next : BookSoFar) → acceptForm n so o ≡ result next → next .old ≡ true
+  unfolding acceptForm
+  form-old none next h = no-refusal (sym h)
+  form-old (some f) next h = accept-old f next h
+
+  line-old : (l : Line) (next : BookSoFar) → readLine n so l ≡ result next → next .old ≡ true
+  unfolding readLine
+  line-old l next h =
+      let short = required (lineFits (length (l .text))) 1 n _ next h in
+      form-old (form (l .text)) next (required (l .ended) 2 n _ next (short .1) .1)
+
+then-alike : {A B : Type 0} (a : Answer A) (f g : A → Answer B) → ((x : A) → a ≡ result x → f x ≡ g x) → onResult a f ≡ onResult a g
+then-alike (result x) f g h = h x refl
+then-alike (refused k v) f g h = refl
+
+zero-lines : (n : ℕ) (so : BookSoFar) (ls ms : List Line) → so .old ≡ true → ZerosWritten ls ms → readLines n so ms ≡ readLines n so ls
+unfolding readLines
+zero-lines n so [] [] old w = refl
+zero-lines n so [] (m ∷ ms) old w = absurd w
+zero-lines n so (l ∷ ls) [] old w = absurd w
+zero-lines n so (l ∷ ls) (m ∷ ms) old w =
+    ap (λ (a : Answer BookSoFar). onResult a (λ next. readLines (n + 1) next ms))
+    (⊎-elim (λ e. ap (readLine n so) e) (λ (o, b, z). ap (readLine n so) z ∙ zero-line n so old o ∙ sym (ap (readLine n so) b)) (w .0))
+    ∙ then-alike (readLine n so l) (λ next. readLines (n + 1) next ms) (λ next. readLines (n + 1) next ls) (λ next e. zero-lines (n + 1) next ls ms (line-old n so old l next e) (w .1))
+
+written : (s t : List ℕ) → ZerosWritten (textLines s) (textLines t) → NoLineOf (policy Min none) t → NoLineOf (policy Mul none) t
+    → length s ≤ 8192 → length t ≤ 8192 → read t ≡ readBefore s
+unfolding readBefore
+written s t w p q f g = unchanged t p q ∙ rw (le-leb (length s) 8192 f, le-leb (length t) 8192 g) (zero-lines 1 _ (textLines s) (textLines t) refl w)
 
 pub old-books : OldBooks
 old-books = record { unchanged = unchanged; kept = kept; written = written }

@@ -50,7 +50,7 @@ passed n so next f h =
 
 -- ---- a policy and a condition
 
-pub missing-in-range : (old : Bool) (o : Operator) → defaultInRange (some (missingDefault old o)) ≡ true
+missing-in-range : (old : Bool) (o : Operator) → defaultInRange (some (missingDefault old o)) ≡ true
 unfolding missingDefault defaultInRange within
 missing-in-range true o = refl
 missing-in-range false Min = refl

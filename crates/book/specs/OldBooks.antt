@@ -1,7 +1,8 @@
 -- Claimed: what change request 2 means for books from before it, whose missing defaults were all 0.
 use Prim.Native.Nat.{ℕ, _+_, _≤_}
 use mathlib.Core.Bool.{false, true}
-use mathlib.Core.List.{List, _++_}
+use mathlib.Core.List.{List, [], _∷_, _++_}
+use mathlib.Core.Logic.{_⊎_}
 use mathlib.Core.Option.{none, some}
 use mathlib.Core.Path.{_≡_}
 use lib.ListN.{length}
@@ -12,11 +13,11 @@ use Rattle.peal.specs.declared.Operator.{Operator}
 use Rattle.peal.specs.declared.Operator.the-variants.{Min, Mul}
 use Rattle.limits.specs.Limits.{bookFits}
 use Rattle.book.specs.Text.{bytes, Line, textLines}
-use Rattle.book.specs.Forms.{Form, oldZero, policy, form}
-use Rattle.book.specs.Acceptance.{BookSoFar, emptyBook, missingDefault, accept}
+use Rattle.book.specs.Forms.{Form, oldZero, policy, operatorWord, form}
+use Rattle.book.specs.Acceptance.{emptyBook}
 use Rattle.book.specs.Books.{readLines, read}
 
--- reading as it was: every default that is left out is 0
+-- reading as it was, of a book without an `o`, which had no form: every default that is left out is 0
 unfoldable pub readBefore : List ℕ → Answer Book
 readBefore s =
     require (bookFits (length s)) 1 0
@@ -31,11 +32,25 @@ unfoldable pub lineBelow : {A : Type 0} → Answer A → Answer A
 lineBelow (result a) = result a
 lineBelow (refused number line) = refused number (line + 1)
 
+-- the line `p OP`, and the same with a 0 written
+abbrev pub bareLine : Operator → Line
+bareLine o = record { text = bytes "p " ++ operatorWord o; ended = true }
+
+abbrev pub zeroLine : Operator → Line
+zeroLine o = record { text = bytes "p " ++ operatorWord o ++ bytes " 0"; ended = true }
+
+-- these lines, of which some `p OP` have a 0 written
+abbrev pub ZerosWritten : List Line → List Line → Type 0
+ZerosWritten [] [] = Unit {0}
+ZerosWritten [] (m ∷ ms) = ⊥
+ZerosWritten (l ∷ ls) [] = ⊥
+ZerosWritten (l ∷ ls) (m ∷ ms) = ((m ≡ l) ⊎ ((o : Operator) × (l ≡ bareLine o) × (m ≡ zeroLine o))) × ZerosWritten ls ms
+
 pub record OldBooks : Type 0 where
   -- a book that leaves out no default of `min` or `mul` is read as it was: the same book, or the same refusal
   pub unchanged : (s : List ℕ) → NoLineOf (policy Min none) s → NoLineOf (policy Mul none) s → read s ≡ readBefore s
-  -- so is every book with an `o` put above it, which had no form before, if there is room for it
+  -- so is every book with an `o` put above it, if there is room for it
   pub kept : (s : List ℕ) → NoLineOf oldZero s → length s + 2 ≤ 8192 → read (bytes "o\n" ++ s) ≡ lineBelow (readBefore s)
-  -- and to write the default that was left out comes to the same, in every line of every book
-  pub written : (n : ℕ) (so : BookSoFar) (o : Operator)
-      → accept n so (policy o none) ≡ accept n so (policy o (some (missingDefault (so .old) o)))
+  -- and so is every book in which each `p min` and `p mul` alone has its 0 written
+  pub written : (s t : List ℕ) → ZerosWritten (textLines s) (textLines t) → NoLineOf (policy Min none) t → NoLineOf (policy Mul none) t
+      → length s ≤ 8192 → length t ≤ 8192 → read t ≡ readBefore s
