@@ -59,8 +59,17 @@ fn results_with_a_pair() {
 }
 
 #[test]
+fn results_with_an_o() {
+    let (bare, old) = (b"p min\nc 0 < p0\n", b"o\np min\nc 0 < p0\n");
+    assert_eq!(raw::check(b"o\n").0, 0);
+    assert_eq!([raw::check(bare).0, raw::check(old).0], [65_568, 65_568]);
+    assert_eq!([raw::decide(bare, 0, 0).0, raw::decide(old, 0, 0).0], [32, 0]);
+    assert_eq!(raw::compile(old, 0, &mut [0; 3]).0, 8);
+}
+
+#[test]
 fn refusals_of_books() {
-    let refusals: [(&[u8], u64); 11] = [
+    let refusals: [(&[u8], u64); 14] = [
         (&[b'p'; 8193], 1),
         (&[b'p'; 129], 33),
         (b"p sum", 34),
@@ -72,6 +81,9 @@ fn refusals_of_books() {
         (b"p sum\nx 0 1\nr 0 1\n", 99),
         (b"x 1 1\n", 37),
         (b"x 0 1\nx 1 0\n", 70),
+        (b"o 1\n", 34),
+        (b"o\no\n", 67),
+        (b"p sum\no\n", 67),
     ];
     for (book, number) in refusals {
         assert_eq!(raw::check(book).0, number);
