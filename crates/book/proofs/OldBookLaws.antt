@@ -11,8 +11,6 @@ use lib.ListN.{length}
 use borrow.Author.Tests.{le-leb}
 use Rattle.answers.specs.Answers.{Answer, result, refused, onResult, require}
 use Rattle.answers.proofs.Results.{no-refusal, result-is, required}
-use Rattle.arith.specs.Lists.{Each}
-use Rattle.peal.specs.Policies.{Book}
 use Rattle.peal.specs.declared.Operator.{Operator}
 use Rattle.peal.specs.declared.Operator.the-variants.{Min, Max, Sum, Mul}
 use Rattle.limits.specs.Limits.{bookFits, lineFits, within}
@@ -21,7 +19,7 @@ use Rattle.book.specs.Forms.{Form, oldZero, policy, rule, exclusion, con
 use Rattle.book.specs.Acceptance.{BookSoFar, noLine, inPlace, inCount, inRange, isNew, defaultInRange, missingDefault, defaultOf, bookWith, opensRules, oldAfter, accept}
 use Rattle.book.specs.Books.{acceptForm, readLine, readLines, read}
 use Rattle.book.specs.Judged.{after}
-use Rattle.book.specs.OldBooks.{readBefore, NoLineOf, lineBelow, bareLine, zeroLine, ZerosWritten, OldBooks}
+use Rattle.book.specs.OldBooks.{readBefore, NoLineOf, AllGiven, lineBelow, bareLine, zeroLine, ZerosWritten, OldBooks}
 use Rattle.book.specs.Computing.{bookComputes}
 use Rattle.book.proofs.TextLaws.{line-before}
 use Rattle.book.proofs.JudgeLaws.{accept-fine}
@@ -73,7 +71,7 @@ below-line n so l h =
     ap (require (lineFits (length (l .text))) 1 (n + 1)) (ap (require (l .ended) 2 (n + 1)) (below-form n so (form (l .text)) h) ∙ below-require (l .ended) 2 n _)
     ∙ below-require (lineFits (length (l .text))) 1 n _
 
-below-lines : (n : ℕ) (so : BookSoFar) (ls : List Line) → Each (λ (l : Line). form (l .text) ≡ some oldZero → ⊥) ls → readLines (n + 1) so ls ≡ lineBelow (readLines n so ls)
+below-lines : (n : ℕ) (so : BookSoFar) (ls : List Line) → NoLineOf oldZero ls → readLines (n + 1) so ls ≡ lineBelow (readLines n so ls)
 unfolding readLines lineBelow
 below-lines n so [] h = refl
 below-lines n so (l ∷ ls) h =
@@ -90,7 +88,7 @@ top-read : (ls : List Line) → readLines 1 noLine (record { text = bytes "o"; e
 unfolding bookComputes older
 top-read ls = refl
 
-kept : (s : List ℕ) → NoLineOf oldZero s → length s + 2 ≤ 8192 → read (bytes "o\n" ++ s) ≡ lineBelow (readBefore s)
+kept : (s : List ℕ) → NoLineOf oldZero (textLines s) → length s + 2 ≤ 8192 → read (bytes "o\n" ++ s) ≡ lineBelow (readBefore s)
 unfolding readBefore older noLine
 kept s h room =
     sym (read-lines (bytes "o\n" ++ s) (le-leb (length (bytes "o\n" ++ s)) 8192 (omega arith)))
@@ -112,25 +110,20 @@ same-default false Max none f g = refl
 same-default true Sum none f g = refl
 same-default false Sum none f g = refl
 
--- the four tests, gone on from
-tests-then : {A B : Type 0} (a b c d : Bool) (n : ℕ) (x : A) (f : A → B)
-    → require a 3 n (require b 4 n (require c 5 n (require d 6 n (result (f x)))))
-    ≡ onResult (require a 3 n (require b 4 n (require c 5 n (require d 6 n (result x))))) (λ y. result (f y))
-tests-then false b c d n x f = refl
-tests-then true false c d n x f = refl
-tests-then true true false d n x f = refl
-tests-then true true true false n x f = refl
-tests-then true true true true n x f = refl
-
 then-require : {A B : Type 0} (t : Bool) (k v : ℕ) (a : Answer A) (f : A → Answer B) → require t k v (onResult a f) ≡ onResult (require t k v a) f
 then-require true k v a f = refl
 then-require false k v a f = refl
 
+-- what is gone on to after the four tests
 older-tests : (n : ℕ) (so : BookSoFar) (f : Form)
     → require (inPlace n so f) 3 n (require (inCount so f) 4 n (require (inRange so f) 5 n (require (isNew so f) 6 n (result (older (after so f))))))
     ≡ onResult (accept n so f) (λ next. result (older next))
 unfolding accept after
-older-tests n so f = tests-then (inPlace n so f) (inCount so f) (inRange so f) (isNew so f) n (after so f) older
+older-tests n so f =
+    ap (require (inPlace n so f) 3 n)
+    (ap (require (inCount so f) 4 n)
+    (ap (require (inRange so f) 5 n) (then-require (isNew so f) 6 n _ _) ∙ then-require (inRange so f) 5 n _ _) ∙ then-require (inCount so f) 4 n _ _)
+    ∙ then-require (inPlace n so f) 3 n _ _
 
 older-accept : (n : ℕ) (so : BookSoFar) (f : Form) → (f ≡ policy Min none → ⊥) → (f ≡ policy Mul none → ⊥)
     → accept n (older so) f ≡ onResult (accept n so f) (λ next. result (older next))
@@ -159,9 +152,7 @@ then-same : {A B C : Type 0} (a : Answer A) (f : A → B) (g : B → Answer C) (
 then-same (result x) f g h e = e x
 then-same (refused k v) f g h e = refl
 
-older-lines : (n : ℕ) (so : BookSoFar) (ls : List Line)
-    → Each (λ (l : Line). form (l .text) ≡ some (policy Min none) → ⊥) ls
-    → Each (λ (l : Line). form (l .text) ≡ some (policy Mul none) → ⊥) ls
+older-lines : (n : ℕ) (so : BookSoFar) (ls : List Line) → NoLineOf (policy Min none) ls → NoLineOf (policy Mul none) ls
     → readLines n (older so) ls ≡ readLines n so ls
 unfolding readLines older
 older-lines n so [] p q = refl
@@ -169,9 +160,9 @@ older-lines n so (l ∷ ls) p q =
     ap (λ (a : Answer BookSoFar). onResult a (λ next. readLines (n + 1) next ls)) (older-line n so l (p .0) (q .0))
     ∙ then-same (readLine n so l) older (λ next. readLines (n + 1) next ls) (λ next. readLines (n + 1) next ls) (λ next. older-lines (n + 1) next ls (p .1) (q .1))
 
-unchanged : (s : List ℕ) → NoLineOf (policy Min none) s → NoLineOf (policy Mul none) s → read s ≡ readBefore s
+unchanged : (s : List ℕ) → AllGiven (textLines s) → read s ≡ readBefore s
 unfolding read readBefore older noLine
-unchanged s p q = ap (require (bookFits (length s)) 1 0) (sym (older-lines 1 noLine (textLines s) p q))
+unchanged s g = ap (require (bookFits (length s)) 1 0) (sym (older-lines 1 noLine (textLines s) (g .0) (g .1)))
 
 -- ---- the 0 of a missing default written
 
@@ -226,10 +217,10 @@ zero-lines n so (l ∷ ls) (m ∷ ms) old w =
     (⊎-elim (λ e. ap (readLine n so) e) (λ (o, b, z). ap (readLine n so) z ∙ zero-line n so old o ∙ sym (ap (readLine n so) b)) (w .0))
     ∙ then-alike (readLine n so l) (λ next. readLines (n + 1) next ms) (λ next. readLines (n + 1) next ls) (λ next e. zero-lines (n + 1) next ls ms (line-old n so old l next e) (w .1))
 
-written : (s t : List ℕ) → ZerosWritten (textLines s) (textLines t) → NoLineOf (policy Min none) t → NoLineOf (policy Mul none) t
+written : (s t : List ℕ) → ZerosWritten (textLines s) (textLines t) → AllGiven (textLines t)
     → length s ≤ 8192 → length t ≤ 8192 → read t ≡ readBefore s
 unfolding readBefore
-written s t w p q f g = unchanged t p q ∙ rw (le-leb (length s) 8192 f, le-leb (length t) 8192 g) (zero-lines 1 _ (textLines s) (textLines t) refl w)
+written s t w g a b = unchanged t g ∙ rw (le-leb (length s) 8192 a, le-leb (length t) 8192 b) (zero-lines 1 _ (textLines s) (textLines t) refl w)
 
 pub old-books : OldBooks
 old-books = record { unchanged = unchanged; kept = kept; written = written }

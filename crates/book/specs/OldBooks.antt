@@ -24,8 +24,12 @@ readBefore s =
     (readLines 1 (record { book = emptyBook; inRules = false; old = true }) (textLines s))
 
 -- no line has this form
-abbrev pub NoLineOf : Form → List ℕ → Type 0
-NoLineOf f s = Each (λ (l : Line). form (l .text) ≡ some f → ⊥) (textLines s)
+abbrev pub NoLineOf : Form → List Line → Type 0
+NoLineOf f ls = Each (λ (l : Line). form (l .text) ≡ some f → ⊥) ls
+
+-- no `min` and no `mul` leaves its default out
+abbrev pub AllGiven : List Line → Type 0
+AllGiven ls = NoLineOf (policy Min none) ls × NoLineOf (policy Mul none) ls
 
 -- the same answer, a refusal told of the line below
 unfoldable pub lineBelow : {A : Type 0} → Answer A → Answer A
@@ -44,13 +48,15 @@ abbrev pub ZerosWritten : List Line → List Line → Type 0
 ZerosWritten [] [] = Unit {0}
 ZerosWritten [] (m ∷ ms) = ⊥
 ZerosWritten (l ∷ ls) [] = ⊥
-ZerosWritten (l ∷ ls) (m ∷ ms) = ((m ≡ l) ⊎ ((o : Operator) × (l ≡ bareLine o) × (m ≡ zeroLine o))) × ZerosWritten ls ms
+ZerosWritten (l ∷ ls) (m ∷ ms) =
+    ((m ≡ l) ⊎ ((o : Operator) × (l ≡ bareLine o) × (m ≡ zeroLine o))) × ZerosWritten ls ms
 
 pub record OldBooks : Type 0 where
   -- a book that leaves out no default of `min` or `mul` is read as it was: the same book, or the same refusal
-  pub unchanged : (s : List ℕ) → NoLineOf (policy Min none) s → NoLineOf (policy Mul none) s → read s ≡ readBefore s
+  pub unchanged : (s : List ℕ) → AllGiven (textLines s) → read s ≡ readBefore s
   -- so is every book with an `o` put above it, if there is room for it
-  pub kept : (s : List ℕ) → NoLineOf oldZero s → length s + 2 ≤ 8192 → read (bytes "o\n" ++ s) ≡ lineBelow (readBefore s)
+  pub kept : (s : List ℕ) → NoLineOf oldZero (textLines s) → length s + 2 ≤ 8192
+      → read (bytes "o\n" ++ s) ≡ lineBelow (readBefore s)
   -- and so is every book in which each `p min` and `p mul` alone has its 0 written
-  pub written : (s t : List ℕ) → ZerosWritten (textLines s) (textLines t) → NoLineOf (policy Min none) t → NoLineOf (policy Mul none) t
+  pub written : (s t : List ℕ) → ZerosWritten (textLines s) (textLines t) → AllGiven (textLines t)
       → length s ≤ 8192 → length t ≤ 8192 → read t ≡ readBefore s
