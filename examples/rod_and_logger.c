@@ -1,5 +1,6 @@
 /* An office, a rod and a logger in one program: condition 0 of a book is compiled and checked, and on a few signal sets the rod
- * is asked by the listing and the logger by the book. The book is document 01's, or the file named on the command line.
+ * is asked by the listing and the logger by the book, which shows its score too. The book is document 01's, or the file named on
+ * the command line.
  *
  *     rt staticlib exports
  *     cc -O2 -Iinclude examples/rod_and_logger.c target/staticlib/libexports.a -o target/rod_and_logger
@@ -58,6 +59,15 @@ static void print_choice(uint64_t choice)
     }
 }
 
+/* The score by which the logger decides, with all its decimals. */
+static void print_score(size_t length, uint16_t set)
+{
+    uint64_t remainder;
+    uint64_t score = cerahupo_score(book, length, 0, set, &remainder);
+    if (cerahupo_accepted(score))
+        printf(", score %" PRId32 ".%014" PRIu64, cerahupo_hundredths(score), remainder);
+}
+
 static void ask_both(size_t length, size_t records)
 {
     static const uint16_t sets[] = {0, 3, 6, 8, 11, 65535};
@@ -65,7 +75,9 @@ static void ask_both(size_t length, size_t records)
     for (size_t i = 0; i < sizeof sets / sizeof sets[0]; i++) {
         uint64_t rod = cerahupo_read(words, 4 * records, sets[i]);
         uint64_t logger = cerahupo_decide(book, length, 0, sets[i]);
-        printf("set %u: rod %s, logger %s\n", sets[i], answer_text(rod), answer_text(logger));
+        printf("set %u: rod %s, logger %s", sets[i], answer_text(rod), answer_text(logger));
+        print_score(length, sets[i]);
+        printf("\n");
     }
 }
 

@@ -1,4 +1,5 @@
-/* Cerahupo from C: the check of a book, the scored decision, compiling, the rod's reading, the choice check and the comparison.
+/* Cerahupo from C: the check of a book, the scored decision, the score itself, compiling, the rod's reading, the choice check and
+ * the comparison.
  *
  * Link libexports.a, which `rt staticlib exports` writes for x86-64 Linux. It uses memcpy and memset of the C library and
  * nothing else, keeps no state and allocates nothing, so calls may run side by side.
@@ -11,7 +12,7 @@
  *
  * Books and listings are handed over as a pointer and a number of elements; with 0 elements the pointer may be anything, NULL
  * too. Every content has an answer: none has to be checked before a call. Nothing is written but the words lent to
- * cerahupo_compile.
+ * cerahupo_compile and the number lent to cerahupo_score.
  *
  * A call returns one number, which tells its whole answer:
  *
@@ -41,6 +42,12 @@ uint64_t cerahupo_check(const uint8_t *book, size_t book_length);
 /* The scored decision, for loggers: a condition of the book, counted from 0, on a signal set (signal S is bit S). Every set is
  * decided, one with an excluded pair too. Result: yes or no. Refusals: those of the book, then 7. */
 uint64_t cerahupo_decide(const uint8_t *book, size_t book_length, uint32_t condition, uint16_t set);
+
+/* The score by which cerahupo_decide decides: E of the condition on the set, exact. Result: its hundredths, -10,000 to 160,000,
+ * rounded toward minus infinity; what is left, in parts of which a hundredth has 10 to the 14, is written to *remainder, which
+ * the book must not overlap. T is less than E exactly when the hundredths exceed T, or equal it with a remainder above 0.
+ * Refusals: those of cerahupo_decide; on a refusal *remainder is not written. */
+uint64_t cerahupo_score(const uint8_t *book, size_t book_length, uint32_t condition, uint16_t set, uint64_t *remainder);
 
 /* Compiling a condition of the book into the lent words, which the book must not overlap. Result: the number of records, those
  * of the book's excluded pairs among them; the first four words for each are the listing, and the words beyond them are not
@@ -86,6 +93,9 @@ static inline unsigned cerahupo_conditions(uint64_t answer) { return (unsigned)(
 
 /* cerahupo_decide and cerahupo_read: accepted, and yes. A refusal is no yes. */
 static inline bool cerahupo_yes(uint64_t answer) { return answer == 32; }
+
+/* cerahupo_score, accepted: the hundredths. The value counts from -10,000, the lowest score that there is. */
+static inline int32_t cerahupo_hundredths(uint64_t answer) { return (int32_t)((int64_t)(answer >> 5) - 10000); }
 
 /* cerahupo_compile: the number of records, 0 on a refusal. A listing has at least one. */
 static inline size_t cerahupo_records(uint64_t answer) { return cerahupo_accepted(answer) ? (size_t)(answer >> 5) : 0; }

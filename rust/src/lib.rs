@@ -42,6 +42,15 @@ pub enum Decision {
     No,
 }
 
+/// The score of a condition's expression, exact: hundredths, rounded toward minus infinity, and what is left in parts of
+/// which a hundredth has 10 to the 14. A threshold T is less than it exactly when the hundredths exceed T, or equal it
+/// with a remainder above zero. Scores are in order as they are compared; printed, they are exact decimals.
+#[derive(Clone, Copy, Debug, PartialEq, Eq, PartialOrd, Ord)]
+pub struct Score {
+    pub hundredths: i64,
+    pub remainder: u64,
+}
+
 /// What a listing says over all signal sets that hold no excluded pair of it; the sets named are the lowest that give
 /// yes and no.
 #[derive(Clone, Copy, Debug, PartialEq, Eq)]
@@ -81,6 +90,20 @@ pub fn check(book: &[u8]) -> Result<Counts, Refusal> {
 /// The scored decision of a book's condition, counted from 0; a set that holds an excluded pair is decided too.
 pub fn decide(book: &[u8], condition: u32, set: u16) -> Result<Decision, Refusal> {
     raw::decide(book, condition, set).result().map(Decision::told)
+}
+
+/// The score by which `decide` decides: that of the condition's expression on the set.
+///
+/// ```
+/// let score = cerahupo::score(b"p mul\nr 0 75\nr 1 50\nc 30 < p0\n", 0, 3)?;
+/// assert_eq!((score.hundredths, score.remainder), (37, 50_000_000_000_000));
+/// assert_eq!(score.to_string(), "37.5 hundredths");
+/// # Ok::<(), cerahupo::Refusal>(())
+/// ```
+pub fn score(book: &[u8], condition: u32, set: u16) -> Result<Score, Refusal> {
+    let mut remainder = 0;
+    let told = raw::score(book, condition, set, &mut remainder);
+    told.result().map(|value| Score::told(value, remainder))
 }
 
 /// Compiles a condition into the lent words and returns the number of records, those of the book's excluded pairs among
@@ -138,6 +161,18 @@ impl Decision {
     }
 }
 
+impl Score {
+    /// So many parts make a hundredth.
+    const PARTS: u64 = 10u64.pow(14);
+
+    /// No accepted book has a lower score, in hundredths; a value counts from it.
+    const LOWEST: i64 = -10_000;
+
+    fn told(value: u64, remainder: u64) -> Score {
+        Score { hundredths: Score::LOWEST + value as i64, remainder }
+    }
+}
+
 impl Choice {
     fn told(value: u64) -> Choice {
         match value % 4 {
@@ -155,6 +190,21 @@ impl Comparison {
             1 => Comparison::Differ { set: set_at(value, 11), yes: Listing::Second },
             _ => Comparison::Differ { set: set_at(value, 11), yes: Listing::First },
         }
+    }
+}
+
+impl fmt::Display for Score {
+    fn fmt(&self, out: &mut fmt::Formatter) -> fmt::Result {
+        let hundredth = u128::from(Score::PARTS);
+        let parts = i128::from(self.hundredths) * i128::from(Score::PARTS) + i128::from(self.remainder);
+        let (sign, size) = (if parts < 0 { "-" } else { "" }, parts.unsigned_abs());
+        write!(out, "{sign}{}", size / hundredth)?;
+        let digits = format!("{:014}", size % hundredth);
+        match digits.trim_end_matches('0') {
+            "" => {}
+            fraction => write!(out, ".{fraction}")?,
+        }
+        write!(out, "{}", if size == hundredth { " hundredth" } else { " hundredths" })
     }
 }
 

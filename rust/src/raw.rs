@@ -4,6 +4,7 @@ mod library {
     unsafe extern "C" {
         pub fn cerahupo_check(book: *const u8, bytes: usize) -> u64;
         pub fn cerahupo_decide(book: *const u8, bytes: usize, condition: u32, set: u16) -> u64;
+        pub fn cerahupo_score(book: *const u8, bytes: usize, condition: u32, set: u16, remainder: *mut u64) -> u64;
         pub fn cerahupo_compile(book: *const u8, bytes: usize, condition: u32, words: *mut u32, count: usize) -> u64;
         pub fn cerahupo_read(words: *const u32, count: usize, set: u16) -> u64;
         pub fn cerahupo_choice(words: *const u32, count: usize) -> u64;
@@ -43,7 +44,7 @@ impl Told {
 }
 
 // Each call below is safe because the library takes every slice whatever, reads only what it was handed, keeps no
-// pointer, and writes only inside the lent words, which nobody else can reach.
+// pointer, and writes only the lent words and the lent number, which nobody else can reach.
 
 pub fn check(book: &[u8]) -> Told {
     // SAFETY: as above.
@@ -53,6 +54,12 @@ pub fn check(book: &[u8]) -> Told {
 pub fn decide(book: &[u8], condition: u32, set: u16) -> Told {
     // SAFETY: as above.
     Told(unsafe { library::cerahupo_decide(book.as_ptr(), book.len(), condition, set) })
+}
+
+/// The value is the hundredths counted from the lowest score, -10,000; the remainder is written only where it is accepted.
+pub fn score(book: &[u8], condition: u32, set: u16, remainder: &mut u64) -> Told {
+    // SAFETY: as above.
+    Told(unsafe { library::cerahupo_score(book.as_ptr(), book.len(), condition, set, remainder) })
 }
 
 pub fn compile(book: &[u8], condition: u32, words: &mut [u32]) -> Told {

@@ -9,7 +9,8 @@ use Rattle.answers.specs.Answers.{result, refused}
 use Rattle.answers.proofs.Results.{result-is, gone-on}
 use Rattle.peal.specs.Policies.{Condition, Book}
 use Rattle.book.specs.Books.{read, Counts, checked, conditionAt, asked}
-use Rattle.book.specs.Ranges.{ConditionInRange, BookInRange, ConditionKept}
+use Rattle.book.specs.Asked.{IsAsked}
+use Rattle.book.specs.Ranges.{ConditionInRange, BookInRange}
 use Rattle.book.specs.Cells.{BookCells}
 use Rattle.book.proofs.RangeLaws.{read-in-range}
 use Rattle.book.proofs.ReadLaws.{checked-result, checked-refused}
@@ -27,12 +28,7 @@ asked-in-range bytes number b c e =
     let range = read-in-range bytes k r in
     subst InRange (result-is h) (range, each-condition (ConditionInRange (length (k .policies))) (k .conditions) number d (range .conditions) g)
 
--- ---- what a check told, for the crates above
-
--- the cells are those of the book that was asked for, and the number is that of the condition
-pub record IsAsked (bytes : List ℕ) (number : ℕ) (cells : List ℤ) : Type 0 where
-  pub kept : ConditionKept cells number
-  pub told : asked bytes number ≡ result (kept .book, kept .condition)
+-- ---- what a check told
 
 module _ (bytes : List ℕ) (number : ℕ) where
   pub asked-refused : (k v : ℕ) → refused k v ≡ checked bytes → asked bytes number ≡ refused k v
@@ -49,7 +45,7 @@ module _ (bytes : List ℕ) (number : ℕ) where
     asked-none k = let r = checked-result bytes n (sym h) in rw (r .1, no-condition (r .0 .conditions) number (omega (arith, r .2)))
 
     -- the cells that reading left
-    pub asked-found : (cells : List ℤ) → ((b : Book) → read bytes ≡ result b → BookCells cells b) → number < n .conditions → IsAsked bytes number cells
+    pub asked-found : (cells : List ℤ) → ((b : Book) → read bytes ≡ result b → BookCells cells b) → number < n .conditions → IsAsked bytes number cells number
     asked-found cells e k =
         let r = checked-result bytes n (sym h) in
         let f = some-condition (r .0 .conditions) number (omega (arith, r .2)) in

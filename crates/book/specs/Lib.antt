@@ -11,6 +11,7 @@ pub mod Codes
 pub mod Cells
 pub mod Ranges
 pub mod Meaning
+pub mod Asked
 pub mod Judged
 pub mod Taken
 pub mod Computing

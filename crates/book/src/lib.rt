@@ -1,6 +1,6 @@
 // Books of evidence policies, as text.
-// `check` is the call, and takes every byte string. The modules are this crate's own; of their functions `read` and those that read
-// the cells of a read book are for the crates above.
+// `check` is the call, and takes every byte string. The modules are this crate's own; of their functions `ask`, `read` and those that
+// read the cells of a read book are for the crates above.
 mod acceptance;
 mod cells;
 mod expressions;
@@ -32,6 +32,7 @@ pub use cells::second_at;
 pub use cells::sense_at;
 pub use cells::signal_at;
 pub use cells::threshold_at;
+pub use reading::ask;
 pub use reading::check;
 pub use reading::read;
 
@@ -74,4 +75,14 @@ pub struct Refusal {
 pub enum Checked {
     Accepted { policies: usize, conditions: usize },
     Refused(Refusal),
+}
+
+// A condition that was asked for, for the crates above.
+pub enum Asked {
+    // The book is in the cells, and this is the condition's place there.
+    Condition(usize),
+    // The book was refused.
+    Refused(Refusal),
+    // The book has no condition of that number.
+    NoCondition,
 }

@@ -1,4 +1,5 @@
 // A whole book: its lines, read from the top.
+use crate::Asked;
 use crate::Checked;
 use crate::Reason;
 use crate::Refusal;
@@ -12,6 +13,7 @@ use crate::text::next_byte;
 ghost use mathlib.Core.Path.{_≡_};
 ghost use Rattle.answers.specs.Answers.{result};
 ghost use Rattle.peal.specs.Policies.{Book as PealBook};
+ghost use Rattle.book.specs.Asked.{AskedAs};
 ghost use Rattle.book.specs.Books.{checked, read as readBook};
 ghost use Rattle.book.specs.Cells.{BookCells};
 ghost use Rattle.book.specs.Meaning.{checkedMeaning};
@@ -70,6 +72,27 @@ pub fn read(bytes: &[u8], cells: &mut Cells) -> Checked
     Checked::Accepted {
         policies: s.opened,
         conditions: s.asked,
+    }
+}
+
+// For the crates above: the book into the lent cells, and in it the condition of a number, which counts from 0.
+pub fn ask(bytes: &[u8], condition: u32, cells: &mut Cells) -> Asked
+    ensures { λ r. ⌜ AskedAs (now (bytes .entry)) condition (now (cells .exit)) r ⌝ }
+{
+    let answer = read(bytes, cells);
+    match answer {
+        Checked::Accepted {
+            policies,
+            conditions,
+        } => {
+            let n = condition as usize;
+            if n < conditions {
+                Asked::Condition(n)
+            } else {
+                Asked::NoCondition
+            }
+        }
+        Checked::Refused(refusal) => Asked::Refused(refusal),
     }
 }
 

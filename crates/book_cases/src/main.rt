@@ -1,8 +1,10 @@
 // Runs the cases of the book part: vectors on standard input, one answer a line on standard output.
 //   check TEXT         the check of the book TEXT
 //   decide C S TEXT    the scored decision of condition C, up to 4294967295, on signal set S, up to 65535
+//   score C S TEXT     the score by which it is decided: hundredths and remainder
 // TEXT is all that follows the one space; in it `|` stands for byte 10. A line that begins with # is copied.
 use printing::print;
+use printing::print_logger;
 use printing::print_number;
 use printing::print_refusal;
 use printing::print_score;
@@ -28,15 +30,20 @@ fn print_checked(c: book::Checked) {
     }
 }
 
-// The decision that a line asks for: the condition's number begins at index `at`.
-fn run_decide(line: &[u8], at: usize)
+// The decision that a line asks for, or the score: the condition's number begins at index `at`.
+fn run_scored(line: &[u8], at: usize, shown: bool)
     requires { ⌜ at ≤ length (now line) ⌝ }
 {
     let condition = number_at(line, at);
     let middle = condition.next;
-    let set = number_at(line, middle);
-    let start = set.next;
-    print_score(score::decide(&line[start..], condition.value, (set.value % 65536) as u16));
+    let number = number_at(line, middle);
+    let set = (number.value % 65536) as u16;
+    let start = number.next;
+    if shown {
+        print_score(score::evaluate(&line[start..], condition.value, set));
+    } else {
+        print_logger(score::decide(&line[start..], condition.value, set));
+    }
 }
 
 fn run_line(line: &mut [u8]) {
@@ -48,10 +55,13 @@ fn run_line(line: &mut [u8]) {
     put_line_ends(line);
     let checked = after_word(line, b"check ");
     let decided = after_word(line, b"decide ");
+    let scored = after_word(line, b"score ");
     if checked > 0 {
         print_checked(book::check(&line[checked..]));
     } else if decided > 0 {
-        run_decide(line, decided);
+        run_scored(line, decided, false);
+    } else if scored > 0 {
+        run_scored(line, scored, true);
     } else {
         print(b"no vector");
     }

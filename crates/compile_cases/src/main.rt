@@ -7,10 +7,10 @@
 // each vector every word of the space is marked by its index, and `compile` and `large` tell whether the words beyond the
 // listing, lent or not, still are (`kept`).
 use printing::print;
+use printing::print_logger;
 use printing::print_number;
 use printing::print_refusal;
 use printing::print_rod;
-use printing::print_score;
 use vectors::after_word;
 use vectors::line_end;
 use vectors::number_at;
@@ -173,7 +173,7 @@ fn run_decide(line: &[u8], at: usize, words: &mut [u32])
         print_rod(rod::decide(&words[..end], set));
     }
     print(b" ");
-    print_score(score::decide(&line[start..], v.condition, set));
+    print_logger(score::decide(&line[start..], v.condition, set));
 }
 
 // What the rod says, as a number that differs from the score's where it says neither yes nor no.

@@ -50,19 +50,10 @@ pub fn compile(bytes: &[u8], condition: u32, words: &mut [u32]) -> Compiled
     ensures { λ r. ⌜ now (words .exit) ≡ lentAfter (now (words .entry)) (compiled (now (bytes .entry)) condition (length (now (words .entry)))) ⌝ }
 {
     let mut cells = [0i32; book::CELL_COUNT];
-    let answer = book::read(bytes, &mut cells);
-    match answer {
-        book::Checked::Accepted {
-            policies,
-            conditions,
-        } => {
-            let n = condition as usize;
-            if n < conditions {
-                compile_condition(&cells, n, words)
-            } else {
-                Compiled::NoCondition
-            }
-        }
-        book::Checked::Refused(refusal) => Compiled::Refused(refusal),
+    let asked = book::ask(bytes, condition, &mut cells);
+    match asked {
+        book::Asked::Condition(n) => compile_condition(&cells, n, words),
+        book::Asked::Refused(refusal) => Compiled::Refused(refusal),
+        book::Asked::NoCondition => Compiled::NoCondition,
     }
 }

@@ -15,6 +15,7 @@ use Rattle.book.specs.Forms.{Form, form}
 use Rattle.book.specs.Acceptance.{BookSoFar, noLine, inPlace, inCount, inRange, isNew, accept}
 use Rattle.book.specs.Books.{acceptForm, readLine, readLines, read, checked, conditionAt, asked}
 use Rattle.score.specs.Decisions.{scoredAnswer}
+use Rattle.score.specs.Shown.{shownAnswer}
 use Rattle.compiler.specs.Compiling.{fitting, compiled, returned}
 use Rattle.exports.proofs.Refusals.{Refuses, never, by, tried, on-result}
 
@@ -90,6 +91,10 @@ module _ (bytes : List ℕ) (n : ℕ) where
   pub deciding : (set : ℕ) → Refuses 1 8 8193 (scoredAnswer bytes n set)
   unfolding scoredAnswer
   deciding set = on-result asking (λ x. never _)
+
+  pub scoring : (set : ℕ) → Refuses 1 8 8193 (shownAnswer bytes n set)
+  unfolding shownAnswer
+  scoring set = on-result asking (λ x. never _)
 
   pub compiling : (lent : ℕ) → Refuses 1 8 8193 (returned (compiled bytes n lent))
   unfolding compiled returned fitting

@@ -1,10 +1,11 @@
 -- Computed examples of packed answers.
 use mathlib.Core.Path.{_≡_, refl}
+use lib.IntN.{pos, negsuc}
 use Rattle.answers.specs.Answers.{result, refused}
 use Rattle.layout.specs.Records.{bit}
 use Rattle.checks.specs.Checks.{both, differ, declined, first, second}
-use Rattle.exports.specs.Packing.{packed, countsValue, itself, choiceValue, packedComparison}
-use Rattle.exports.specs.Unpacking.{codeIn, valueIn, ofFirst, numberOf, unpacked, whichOf, comparisonIn}
+use Rattle.exports.specs.Packing.{packed, countsValue, scoreValue, remainderAfter, itself, choiceValue, packedComparison}
+use Rattle.exports.specs.Unpacking.{codeIn, valueIn, ofFirst, numberOf, unpacked, scoreIn, whichOf, comparisonIn}
 
 -- two policies and one condition
 counted : packed countsValue (result (record { policies = 2; conditions = 1 })) ≡ 65600
@@ -48,3 +49,23 @@ highest-refusal = refl
 told-second : comparisonIn (packedComparison (declined second 9 0)) ≡ declined second 9 0
 unfolding packedComparison comparisonIn codeIn valueIn ofFirst numberOf whichOf
 told-second = refl
+
+-- a score of 20 hundredths: they are counted from -10,000
+scored : packed scoreValue (result (record { hundredths = pos 20; remainder = 0 })) ≡ 320640
+unfolding packed scoreValue
+scored = refl
+
+-- the lowest score, and the highest with the largest remainder that there is room for
+lowest-score : packed scoreValue (result (record { hundredths = negsuc 9999; remainder = 0 })) ≡ 0
+unfolding packed scoreValue
+lowest-score = refl
+
+told-score : unpacked (scoreIn 99999999999999) (packed scoreValue (result (record { hundredths = pos 160000; remainder = 99999999999999 })))
+    ≡ result (record { hundredths = pos 160000; remainder = 99999999999999 })
+unfolding packed scoreValue unpacked codeIn valueIn scoreIn
+told-score = refl
+
+-- a refusal leaves the lent number
+lent-kept : remainderAfter 77 (refused 7 0) ≡ 77
+unfolding remainderAfter
+lent-kept = refl

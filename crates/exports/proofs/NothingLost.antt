@@ -1,9 +1,11 @@
 -- The number that a call returns tells its whole answer.
 use Prim.Native.Nat.{ℕ, _+_, _-_, _*_, _/_, _%_, _≤_, _<_}
 use mathlib.Core.Bool.{Bool, true, false, cond}
-use mathlib.Core.Path.{_≡_, refl, ap, _∙_}
+use mathlib.Core.List.{List}
+use mathlib.Core.Path.{_≡_, refl, sym, ap, subst, _∙_}
 use native.Mathlib.Omega.{arith}
 use lib.Dec.{eqb}
+use lib.IntN.{ℤ, pos, natAbs, _+ℤ_, _-ℤ_, +ℤ-negℤ-cancel}
 use lib.ListN.{length}
 use borrow.Author.Tests.{le-leb, lt-leb, ne-eqb}
 use Rattle.answers.specs.Answers.{Answer, result, refused}
@@ -12,14 +14,16 @@ use Rattle.rod.specs.Reading.{rodAnswer}
 use Rattle.checks.specs.Checks.{Choice, always, never, both, choice, Comparison, alike, differ, declined, first, second, comparison}
 use Rattle.book.specs.Books.{Counts, checked}
 use Rattle.score.specs.Decisions.{scoredAnswer}
+use Rattle.score.specs.Shown.{shownAnswer}
+use Rattle.score.specs.declared.exact.Exact.{Exact}
 use Rattle.compiler.specs.Compiling.{compiled, returned}
-use Rattle.exports.specs.Packing.{asOne, ofSecond, packed, countsValue, itself, choiceValue, packedComparison}
-use Rattle.exports.specs.Unpacking.{codeIn, valueIn, ofFirst, numberOf, unpacked, countsIn, yesIn, choiceIn, whichOf, differenceIn, comparisonIn}
+use Rattle.exports.specs.Packing.{asOne, ofSecond, packed, countsValue, scoreValue, remainderAfter, itself, choiceValue, packedComparison}
+use Rattle.exports.specs.Unpacking.{codeIn, valueIn, ofFirst, numberOf, unpacked, countsIn, yesIn, scoreIn, choiceIn, whichOf, differenceIn, comparisonIn}
 use Rattle.exports.specs.NothingLost.{NothingLost}
 use Rattle.exports.proofs.Refusals.{Refuses, in-table}
-use Rattle.exports.proofs.BookRefusals.{checking, deciding, compiling}
+use Rattle.exports.proofs.BookRefusals.{checking, deciding, scoring, compiling}
 use Rattle.exports.proofs.ListingRefusals.{rod-reading, choosing, Declines, comparing}
-use Rattle.exports.proofs.Results.{counts-small, YesBelow, choice-below}
+use Rattle.exports.proofs.Results.{counts-small, hundredths-natural, YesBelow, choice-below}
 
 -- ---- the parts of a number
 
@@ -74,6 +78,16 @@ unfolding yesIn bit
 yes-again true = refl
 yes-again false = refl
 
+-- the hundredths from their value, and the remainder from the lent number
+score-again : (bytes : List ℕ) (number set lent : ℕ) (x : Exact) → result x ≡ shownAnswer bytes number set
+    → scoreIn (remainderAfter lent (shownAnswer bytes number set)) (scoreValue x) ≡ x
+unfolding scoreIn scoreValue remainderAfter
+score-again bytes number set lent x e =
+    let (n, counted, few) = hundredths-natural bytes number set x (sym e) in
+    let back : pos (natAbs (x .hundredths +ℤ pos 10000)) -ℤ pos 10000 ≡ x .hundredths =
+        ap (λ (z : ℤ). pos (natAbs z) -ℤ pos 10000) counted ∙ ap (λ (z : ℤ). z -ℤ pos 10000) (sym counted) ∙ +ℤ-negℤ-cancel (x .hundredths) (pos 10000) in
+    subst (λ (a : Answer Exact). scoreIn (remainderAfter lent a) (scoreValue x) ≡ x) e (rw back refl)
+
 choice-again : (c : Choice) → YesBelow c → choiceIn (choiceValue c) ≡ c
 unfolding choiceIn choiceValue
 choice-again always h = refl
@@ -113,6 +127,7 @@ nothing-lost =
     record {
       check = λ book. told-again countsValue countsIn (omega arith) (omega arith) (checked book) (checking book) (λ n e. counts-again n (counts-small book n e .0));
       decide = λ book condition set. told-again bit yesIn (omega arith) (omega arith) (scoredAnswer book condition set) (deciding book condition set) (λ b e. yes-again b);
+      score = λ book condition set lent. told-again scoreValue _ (omega arith) (omega arith) (shownAnswer book condition set) (scoring book condition set) (score-again book condition set lent);
       compile = λ book condition lent. told-again itself itself (omega arith) (omega arith) (returned (compiled book condition lent)) (compiling book condition lent) (λ n e. refl);
       read = λ words set. told-again bit yesIn (omega arith) (omega arith) (rodAnswer words set) (rod-reading words set) (λ b e. yes-again b);
       choose = λ words. told-again choiceValue choiceIn (omega arith) (omega arith) (choice words) (choosing words) (λ c e. choice-again c (choice-below words c e));

@@ -1,4 +1,4 @@
--- Claimed: the number that a call returns tells its whole answer, for every input. Proved in proofs/NothingLost.antt.
+-- Claimed: the number that a call returns, and for the score the one lent to it, tells its whole answer, for every input. Proved in proofs/NothingLost.antt.
 use Prim.Native.Nat.{ℕ}
 use mathlib.Core.List.{List}
 use mathlib.Core.Path.{_≡_}
@@ -7,13 +7,18 @@ use Rattle.rod.specs.Reading.{rodAnswer}
 use Rattle.checks.specs.Checks.{choice, comparison}
 use Rattle.book.specs.Books.{checked}
 use Rattle.score.specs.Decisions.{scoredAnswer}
+use Rattle.score.specs.Shown.{shownAnswer}
 use Rattle.compiler.specs.Compiling.{compiled, returned}
-use Rattle.exports.specs.Packing.{packed, countsValue, itself, choiceValue, packedComparison}
-use Rattle.exports.specs.Unpacking.{unpacked, countsIn, yesIn, choiceIn, comparisonIn}
+use Rattle.exports.specs.Packing.{packed, countsValue, scoreValue, remainderAfter, itself, choiceValue, packedComparison}
+use Rattle.exports.specs.Unpacking.{unpacked, countsIn, yesIn, scoreIn, choiceIn, comparisonIn}
 
 pub record NothingLost : Type 0 where
   pub check : (book : List ℕ) → unpacked countsIn (packed countsValue (checked book)) ≡ checked book
   pub decide : (book : List ℕ) (condition set : ℕ) → unpacked yesIn (packed bit (scoredAnswer book condition set)) ≡ scoredAnswer book condition set
+  -- the score from the number that is returned and the one that was lent, whatever this held
+  pub score : (book : List ℕ) (condition set lent : ℕ)
+      → unpacked (scoreIn (remainderAfter lent (shownAnswer book condition set))) (packed scoreValue (shownAnswer book condition set))
+      ≡ shownAnswer book condition set
   pub compile : (book : List ℕ) (condition lent : ℕ)
       → unpacked itself (packed itself (returned (compiled book condition lent))) ≡ returned (compiled book condition lent)
   pub read : (words : List ℕ) (set : ℕ) → unpacked yesIn (packed bit (rodAnswer words set)) ≡ rodAnswer words set

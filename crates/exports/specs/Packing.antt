@@ -2,9 +2,11 @@
 -- The code is 0 where the call was accepted, and else the refusal's number, of which there is room for 1 to 20;
 -- the refusals 9 and 10 of the second listing of a comparison have the codes 25 and 26.
 use Prim.Native.Nat.{ℕ, _+_, _*_}
+use lib.IntN.{pos, natAbs, _+ℤ_}
 use Rattle.answers.specs.Answers.{Answer, result, refused}
 use Rattle.checks.specs.Checks.{Choice, always, never, both, Comparison, alike, differ, declined, first, second}
 use Rattle.book.specs.Books.{Counts}
+use Rattle.score.specs.declared.exact.Exact.{Exact}
 
 abbrev pub asOne : (code value : ℕ) → ℕ
 asOne code value = code + 32 * value
@@ -23,6 +25,15 @@ packed valueOf (refused number value) = asOne number value
 -- the check of a book: policies, and from bit 16 of the number on conditions
 unfoldable pub countsValue : Counts → ℕ
 countsValue n = n .policies + 2048 * n .conditions
+
+-- the score: its hundredths, counted from -10,000, the lowest that there is
+unfoldable pub scoreValue : Exact → ℕ
+scoreValue x = natAbs (x .hundredths +ℤ pos 10000)
+
+-- and the number that is lent to the call, afterwards: the remainder, or as it was where the call refuses
+unfoldable pub remainderAfter : ℕ → Answer Exact → ℕ
+remainderAfter lent (result x) = x .remainder
+remainderAfter lent (refused number value) = lent
 
 -- compiling: the number of records itself
 abbrev pub itself : ℕ → ℕ

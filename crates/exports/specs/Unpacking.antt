@@ -1,10 +1,12 @@
 -- The answer told again from the number that a call returned, as the header's functions tell it.
 use Prim.Native.Nat.{ℕ, _-_, _/_, _%_}
+use lib.IntN.{pos, _-ℤ_}
 use mathlib.Core.Bool.{Bool, cond}
 use lib.Dec.{eqb, leb}
 use Rattle.answers.specs.Answers.{Answer, result, refused}
 use Rattle.checks.specs.Checks.{Choice, always, never, both, Which, first, second, Comparison, alike, differ, declined}
 use Rattle.book.specs.Books.{Counts}
+use Rattle.score.specs.declared.exact.Exact.{Exact}
 
 -- the code and the value
 unfoldable pub codeIn : ℕ → ℕ
@@ -32,6 +34,10 @@ countsIn v = record { policies = v % 2048; conditions = v / 2048 }
 
 unfoldable pub yesIn : ℕ → Bool
 yesIn v = eqb v 1
+
+-- the score, beside the remainder that the call left
+unfoldable pub scoreIn : ℕ → ℕ → Exact
+scoreIn remainder v = record { hundredths = pos v -ℤ pos 10000; remainder = remainder }
 
 unfoldable pub choiceIn : ℕ → Choice
 choiceIn v = cond (eqb v 0) always (cond (eqb v 1) never (both (v / 2048 % 65536) (v / 134217728)))

@@ -1,5 +1,6 @@
 // The calls for programs in C or Rust that link this code; include/cerahupo.h is their header.
-// Each takes every input, and returns its answer as one number. Only compiling writes, and only the lent words.
+// Each takes every input, and returns its answer as one number. Only compiling writes the lent words, and only the score's call
+// the lent number.
 ghost use mathlib.Core.Path.{_≡_};
 ghost use Prim.Native.Nat.{_^_, _<_};
 ghost use lib.ListN.{length};
@@ -10,14 +11,18 @@ ghost use Rattle.checks.specs.Checks.{choice, comparison};
 ghost use Rattle.book.specs.Books.{checked};
 ghost use Rattle.book.specs.Meaning.{reasonNumber};
 ghost use Rattle.score.specs.Decisions.{scoredAnswer};
+ghost use Rattle.score.specs.Shown.{shownAnswer};
 ghost use Rattle.compiler.specs.Compiling.{compiled, returned, lentAfter};
-ghost use Rattle.exports.specs.Packing.{asOne, packed, countsValue, itself, choiceValue, packedComparison};
+ghost use Rattle.exports.specs.Packing.{asOne, packed, countsValue, scoreValue, remainderAfter, itself, choiceValue, packedComparison};
 
 // In a value: the weight of what stands from bit 16 of the number on.
 const FROM_BIT_16: u64 = 2048;
 
 // The same from bit 32 on.
 const FROM_BIT_32: u64 = 134217728;
+
+// So far below zero is the lowest score, in hundredths; the value of a score counts from there.
+const BELOW_ZERO: i64 = 10000;
 
 // By so much the code of a refusal is higher where it is the second listing's.
 const OF_SECOND: u64 = 16;
@@ -87,6 +92,23 @@ pub extern "C" fn cerahupo_decide(bytes: &[u8], condition: u32, set: u16) -> u64
         score::Decision::No => accepted(0),
         score::Decision::Refused(refusal) => refused_book(refusal),
         score::Decision::NoCondition => refused(7, 0),
+    }
+}
+
+#[no_mangle]
+pub extern "C" fn cerahupo_score(bytes: &[u8], condition: u32, set: u16, remainder: &mut u64) -> u64
+    ensures { λ r. ⌜ r ≡ packed scoreValue (shownAnswer (now (bytes .entry)) condition set) ⌝ }
+    ensures { λ r. ⌜ now (remainder .exit) ≡ remainderAfter (now (remainder .entry)) (shownAnswer (now (bytes .entry)) condition set) ⌝ }
+{
+    let e = score::evaluate(bytes, condition, set);
+    match e {
+        score::Evaluation::Score(x) => {
+            let value = (x.hundredths + BELOW_ZERO) as u64;
+            *remainder = x.remainder;
+            accepted(value)
+        }
+        score::Evaluation::Refused(refusal) => refused_book(refusal),
+        score::Evaluation::NoCondition => refused(7, 0),
     }
 }
 

@@ -8,6 +8,15 @@ pub fn print_number(n: u64) {
     io::print_decimal(libc::STDOUT_FILENO, n);
 }
 
+fn print_signed(n: i64) {
+    if n < 0 {
+        print(b"-");
+        print_number((0 - (n + 1)) as u64 + 1);
+    } else {
+        print_number(n as u64);
+    }
+}
+
 pub fn print_refused(number: u64, value: u64) {
     print(b"refused ");
     print_number(number);
@@ -51,11 +60,26 @@ pub fn print_rod(d: rod::Decision) {
     }
 }
 
-pub fn print_score(d: score::Decision) {
+pub fn print_logger(d: score::Decision) {
     match d {
         score::Decision::Yes => print(b"yes"),
         score::Decision::No => print(b"no"),
         score::Decision::Refused(refusal) => print_refusal(refusal),
         score::Decision::NoCondition => print_refused(7, 0),
+    }
+}
+
+fn print_exact(x: score::Exact) {
+    print(b"score ");
+    print_signed(x.hundredths);
+    print(b" ");
+    print_number(x.remainder);
+}
+
+pub fn print_score(e: score::Evaluation) {
+    match e {
+        score::Evaluation::Score(x) => print_exact(x),
+        score::Evaluation::Refused(refusal) => print_refusal(refusal),
+        score::Evaluation::NoCondition => print_refused(7, 0),
     }
 }

@@ -19,7 +19,7 @@ use Rattle.score.specs.Pairs.{Is, ordered, choiceMeaning}
 use Rattle.score.specs.declared.exact.Exact.{Exact}
 
 -- a score in parts, from its pair, as naturals
-parts : (x : Exact) (v : ℤ) → Is x v → above v + under (x .hundredths) * 10 ^ 14 ≡ above (x .hundredths) * 10 ^ 14 + x .remainder + under v
+pub parts : (x : Exact) (v : ℤ) → Is x v → above v + under (x .hundredths) * 10 ^ 14 ≡ above (x .hundredths) * 10 ^ 14 + x .remainder + under v
 unfolding scaled
 parts x v i =
     rw (← i .same, ← above-scale (x .hundredths) (10 ^ 14), ← under-scale (x .hundredths) (10 ^ 14))

@@ -1,16 +1,19 @@
-// The scored decision on a book's bytes, for loggers.
-// `decide` is the call, and takes every byte string, condition number and signal set. The modules are this crate's own.
+// The scored decision on a book's bytes, and the score itself, for loggers.
+// `decide` and `evaluate` are the calls, and take every byte string, condition number and signal set. The modules are this
+// crate's own.
 mod exact;
 mod expressions;
 mod policies;
 
+pub use exact::Exact;
 use exact::meets;
 use expressions::expression_score;
 ghost use mathlib.Core.Path.{_≡_};
 ghost use Rattle.peal.specs.Score.{decision};
 ghost use Rattle.book.specs.Ranges.{ConditionKept};
 ghost use Rattle.score.specs.Decisions.{scoredAnswer};
-ghost use Rattle.score.specs.Meaning.{scoreMeaning};
+ghost use Rattle.score.specs.Shown.{shownAnswer};
+ghost use Rattle.score.specs.Meaning.{scoreMeaning, shownMeaning};
 
 // The logger's answer.
 pub enum Decision {
@@ -37,23 +40,41 @@ pub fn decide(bytes: &[u8], condition: u32, set: u16) -> Decision
     ensures { λ r. ⌜ scoreMeaning r ≡ scoredAnswer (now (bytes .entry)) condition set ⌝ }
 {
     let mut cells = [0i32; book::CELL_COUNT];
-    let answer = book::read(bytes, &mut cells);
-    match answer {
-        book::Checked::Accepted {
-            policies,
-            conditions,
-        } => {
-            let n = condition as usize;
-            if n < conditions {
-                if is_met(&cells, n, set) {
-                    Decision::Yes
-                } else {
-                    Decision::No
-                }
+    let asked = book::ask(bytes, condition, &mut cells);
+    match asked {
+        book::Asked::Condition(n) => {
+            if is_met(&cells, n, set) {
+                Decision::Yes
             } else {
-                Decision::NoCondition
+                Decision::No
             }
         }
-        book::Checked::Refused(refusal) => Decision::Refused(refusal),
+        book::Asked::Refused(refusal) => Decision::Refused(refusal),
+        book::Asked::NoCondition => Decision::NoCondition,
+    }
+}
+
+// The score by which a condition is decided.
+pub enum Evaluation {
+    // That of its expression on the set: hundredths rounded toward minus infinity, and the exact remainder.
+    Score(Exact),
+    // The book was refused.
+    Refused(book::Refusal),
+    // The book has no condition of that number.
+    NoCondition,
+}
+
+pub fn evaluate(bytes: &[u8], condition: u32, set: u16) -> Evaluation
+    ensures { λ r. ⌜ shownMeaning r ≡ shownAnswer (now (bytes .entry)) condition set ⌝ }
+{
+    let mut cells = [0i32; book::CELL_COUNT];
+    let asked = book::ask(bytes, condition, &mut cells);
+    match asked {
+        book::Asked::Condition(n) => {
+            let x = expression_score(&cells, n, set);
+            Evaluation::Score(x)
+        }
+        book::Asked::Refused(refusal) => Evaluation::Refused(refusal),
+        book::Asked::NoCondition => Evaluation::NoCondition,
     }
 }

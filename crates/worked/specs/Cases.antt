@@ -3,12 +3,12 @@
 use Prim.Native.String.{String, _++_}
 use mathlib.Core.Path.{_≡_, refl}
 use mathlib.Core.List.{[], _∷_}
-use lib.IntN.{pos}
+use lib.IntN.{pos, negsuc}
 use Rattle.answers.specs.Answers.{result}
 use Rattle.checks.specs.Checks.{both}
 use Rattle.peal.specs.Score.{scaled}
 use Rattle.worked.specs.Computing as W
-use Rattle.worked.specs.Computing.{listing, decides, scores, chooses, _&_, allCompute}
+use Rattle.worked.specs.Computing.{listing, decides, scores, shows, chooses, _&_, allCompute}
 
 -- book A with the condition given
 unfoldable pub A : String → String
@@ -132,3 +132,21 @@ missing-full = refl
 missing-old : listing ("o\n" ++ missing) & decides ("o\n" ++ missing) 0 ≡ result (18 ∷ 0 ∷ 0 ∷ 0 ∷ []) & W.no
 unfolding missing allCompute
 missing-old = refl
+
+-- ---- change request 3: the score itself
+
+-- case c: E is 20 hundredths, with no remainder
+score-c : shows printed 11 ≡ result (record { hundredths = pos 20; remainder = 0 })
+unfolding A printed allCompute
+score-c = refl
+
+-- cases f and g: the product is 25 hundredths, so `25 >=` is met and `24 >=` is not
+score-f : shows (halves "c 25 >= p0\n") 3 & shows (halves "c 24 >= p0\n") 3
+    ≡ result (record { hundredths = pos 25; remainder = 0 }) & result (record { hundredths = pos 25; remainder = 0 })
+unfolding halves allCompute
+score-f = refl
+
+-- case i: a default below zero
+score-i : shows belowZero 0 ≡ result (record { hundredths = negsuc 4; remainder = 0 })
+unfolding belowZero allCompute
+score-i = refl

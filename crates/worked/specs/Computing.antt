@@ -13,6 +13,8 @@ use Rattle.peal.specs.Score.{policyScore}
 use Rattle.book.specs.Text.{bytes}
 use Rattle.book.specs.Books.{read}
 use Rattle.score.specs.Decisions.{scoredAnswer}
+use Rattle.score.specs.Shown.{shownAnswer}
+use Rattle.score.specs.declared.exact.Exact.{Exact}
 use Rattle.compiler.specs.Compiling.{compiled, returned, lentAfter, compiledListing}
 use Rattle.checks.specs.Computing.{checksCompute}
 use Rattle.score.specs.Computing.{scoreComputes}
@@ -33,6 +35,10 @@ decides book set = (scoredAnswer (bytes book) 0 set, onResult (listing book) (λ
 unfoldable pub scores : String → ℕ → ℕ → Answer ℤ
 scores book n set = onResult (read (bytes book)) (λ b. result (policyScore set (policyAt (b .policies) n)))
 
+-- the score of condition 0 on a set, as it is shown
+unfoldable pub shows : String → ℕ → Answer Exact
+shows book set = shownAnswer (bytes book) 0 set
+
 -- the choice check of the listing
 unfoldable pub chooses : String → Answer Choice
 chooses book = onResult (listing book) choice
@@ -51,5 +57,5 @@ a & b = (a, b)
 
 -- no meaning: a case that computes with all definitions says `unfolding allCompute`
 unfoldable pub allCompute : Unit {0}
-unfolding checksCompute scoreComputes compilerComputes listing decides scores chooses yes no
+unfolding checksCompute scoreComputes compilerComputes listing decides scores shows chooses yes no
 allCompute = tt

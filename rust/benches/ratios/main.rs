@@ -19,9 +19,10 @@ use timing::{Input, Quotient, Table, asked};
 type Rows = fn(&Table);
 
 fn main() {
-    let calls: [(&str, Rows); 6] = [
+    let calls: [(&str, Rows); 7] = [
         ("check", check),
         ("decide", decide),
+        ("score", score),
         ("compile", compile),
         ("read", read),
         ("choice", choice),
@@ -56,17 +57,30 @@ fn check(table: &Table) {
 }
 
 fn decide(table: &Table) {
-    let row = |name: &str, book: &str, set: u16| {
+    for (name, book, set) in scored() {
+        let input = Input { call: "decide", name: &name, size: book.len(), unit: "bytes" };
         let book = book.as_bytes();
-        let input = Input { call: "decide", name, size: book.len(), unit: "bytes" };
         table.row(input, || cerahupo::decide(book, 0, set), || optimised::decide(book, 0, set));
-    };
-    row("the sample, set 11", SAMPLE, 11);
-    for policies in [1, 2, 4, 8, 16] {
-        row(&format!("policies of 16 rules: {policies}, all present"), &wide_book(policies), u16::MAX);
     }
-    row("the same, none present", &wide_book(16), 0);
-    row("one product of 8", &(policy("mul", 8, |score| 90 + score as i64) + "c 40 < p0\n"), 255);
+}
+
+fn score(table: &Table) {
+    for (name, book, set) in scored() {
+        let input = Input { call: "score", name: &name, size: book.len(), unit: "bytes" };
+        let book = book.as_bytes();
+        table.row(input, || cerahupo::score(book, 0, set), || optimised::score(book, 0, set));
+    }
+}
+
+/// Books whose condition 0 is scored on a set.
+fn scored() -> Vec<(String, String, u16)> {
+    let mut rows = vec![("the sample, set 11".to_string(), SAMPLE.to_string(), 11)];
+    for policies in [1, 2, 4, 8, 16] {
+        rows.push((format!("policies of 16 rules: {policies}, all present"), wide_book(policies), u16::MAX));
+    }
+    rows.push(("the same, none present".to_string(), wide_book(16), 0));
+    rows.push(("one product of 8".to_string(), policy("mul", 8, |score| 90 + score as i64) + "c 40 < p0\n", 255));
+    rows
 }
 
 fn compile(table: &Table) {

@@ -2,7 +2,7 @@
 
 use crate::inputs::Inside;
 use crate::{optimised, reference};
-use cerahupo::{Choice, Comparison, Counts, Decision, Declined, Listing, Refusal, raw};
+use cerahupo::{Choice, Comparison, Counts, Decision, Declined, Listing, Refusal, Score, raw};
 
 pub fn check(book: &[u8]) -> Result<Counts, Refusal> {
     let expected = reference::check(book);
@@ -19,6 +19,20 @@ pub fn decide(book: &[u8], condition: u32, set: u16) -> Result<Decision, Refusal
     assert_eq!(cerahupo::decide(book, condition, set), expected, "decide {input}");
     assert_eq!(raw::decide(book, condition, set).0, number(expected, yes_number));
     assert_eq!(optimised::decide(book, condition, set), expected, "optimised decide {input}");
+    expected
+}
+
+/// The number beside the call's is lent with something in it, which a refusal leaves.
+pub fn score(book: &[u8], condition: u32, set: u16) -> Result<Score, Refusal> {
+    const LENT: u64 = u64::MAX;
+    let expected = reference::score(book, condition, set);
+    let input = format!("condition {condition} set {set} of {:?}", String::from_utf8_lossy(book));
+    assert_eq!(cerahupo::score(book, condition, set), expected, "score {input}");
+    let mut remainder = LENT;
+    let told = raw::score(book, condition, set, &mut remainder).0;
+    assert_eq!(told, number(expected, |score| (score.hundredths + 10_000) as u64));
+    assert_eq!(remainder, expected.map_or(LENT, |score| score.remainder), "remainder of score {input}");
+    assert_eq!(optimised::score(book, condition, set), expected, "optimised score {input}");
     expected
 }
 

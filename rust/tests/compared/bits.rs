@@ -34,6 +34,23 @@ fn results() {
     assert_eq!(raw::choice(&NEVER).0, 32);
 }
 
+/// The number of a score, and the remainder that is lent to the call.
+fn scored(book: &[u8], condition: u32, set: u16) -> (u64, u64) {
+    let mut remainder = 77;
+    (raw::score(book, condition, set, &mut remainder).0, remainder)
+}
+
+/// Hundredths count from the lowest score; on a refusal the lent number is as it was.
+#[test]
+fn scores() {
+    assert_eq!(scored(SAMPLE, 0, 11), (320_640, 0));
+    assert_eq!(scored(b"p sum -10000\nc 0 < p0\n", 0, 0), (0, 0));
+    assert_eq!(scored(b"p min -5\nc 0 < p0\n", 0, 0), (319_840, 0));
+    assert_eq!(scored(b"p mul\nr 0 75\nr 1 50\nc 0 < p0\n", 0, 3), (321_184, 50_000_000_000_000));
+    assert_eq!(scored(SAMPLE, 1, 0), (7, 77));
+    assert_eq!(scored(b"p sum\nr 0 1\nr 0 1\n", 0, 0), (102, 77));
+}
+
 #[test]
 fn comparisons() {
     assert_eq!(raw::compare(&HELD, &HELD).0, 0);
@@ -88,6 +105,7 @@ fn refusals_of_books() {
     for (book, number) in refusals {
         assert_eq!(raw::check(book).0, number);
         assert_eq!(raw::decide(book, 0, 0).0, number);
+        assert_eq!(scored(book, 0, 0), (number, 77));
         assert_eq!(raw::compile(book, 0, &mut []).0, number);
     }
     assert_eq!(raw::decide(SAMPLE, 1, 0).0, 7);

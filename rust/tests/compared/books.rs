@@ -1,11 +1,11 @@
-//! Books checked and decided.
+//! Books checked, decided and scored.
 
 use crate::agreed;
 use crate::inputs::random::{Random, rounds};
 use crate::inputs::{Inside, books, damage};
 use crate::reference;
 use crate::tally::Tally;
-use cerahupo::{Counts, Decision, Refusal};
+use cerahupo::{Counts, Decision, Refusal, Score};
 
 /// A book inside other bytes that would change it if they were read.
 fn book(random: &mut Random) -> Inside<u8> {
@@ -109,15 +109,19 @@ fn count_default(decision: Decision, book: &[u8], condition: u32, set: u16, tall
     }
 }
 
+/// A condition of the book, or a number that it has none of, and a set.
+fn question(book: &[u8], random: &mut Random) -> (u32, u16) {
+    let conditions = reference::check(book).map_or(1, |counts| counts.conditions);
+    (books::condition_number(conditions, random), random.set())
+}
+
 #[test]
 fn decide() {
     let mut random = Random::of("decide");
     let mut tally = Tally::new("decide");
     for _ in 0..rounds(40_000) {
         let book = book(&mut random);
-        let conditions = reference::check(book.slice()).map_or(1, |counts| counts.conditions);
-        let condition = books::condition_number(conditions, &mut random);
-        let set = random.set();
+        let (condition, set) = question(book.slice(), &mut random);
         let answer = agreed::decide(book.slice(), condition, set);
         tally.count_answer(answer, |decision| match decision {
             Decision::Yes => "yes",
@@ -139,5 +143,56 @@ fn decide() {
         "refusal 7",
         "another answer with o",
         "another answer without o",
+    ]);
+}
+
+/// The threshold and the sign of a condition of an accepted book.
+fn limit(book: &[u8], condition: u32) -> (i64, String) {
+    let text = std::str::from_utf8(book).expect("an accepted book is text");
+    let line = text.lines().filter(|line| line.starts_with('c')).nth(condition as usize).expect("it has the condition");
+    let [_, threshold, sign, _] = line.split(' ').collect::<Vec<_>>()[..] else { panic!("{line} is no condition") };
+    (threshold.parse().expect("a threshold is a number"), sign.to_string())
+}
+
+/// The decision that the shown pair tells: T is less than it where the hundredths exceed T, or equal it with a remainder.
+fn told_by(score: Score, book: &[u8], condition: u32) -> Decision {
+    let (threshold, sign) = limit(book, condition);
+    let less = score.hundredths > threshold || (score.hundredths == threshold && score.remainder > 0);
+    if less == (sign == "<") { Decision::Yes } else { Decision::No }
+}
+
+/// Each score, and beside it the decision, which it must tell.
+#[test]
+fn score() {
+    let mut random = Random::of("score");
+    let mut tally = Tally::new("score");
+    for _ in 0..rounds(40_000) {
+        let book = book(&mut random);
+        let (condition, set) = question(book.slice(), &mut random);
+        let answer = agreed::score(book.slice(), condition, set);
+        let decision = cerahupo::decide(book.slice(), condition, set);
+        assert_eq!(answer.map(|score| told_by(score, book.slice(), condition)), decision);
+        tally.count_answer(answer, |score| match (score.hundredths, score.remainder) {
+            (..0, _) => "below zero",
+            (_, 0) => "whole",
+            _ => "with a remainder",
+        });
+        if answer.is_ok_and(|score| score.hundredths == limit(book.slice(), condition).0) {
+            tally.count(if answer.is_ok_and(|score| score.remainder > 0) { "just above T" } else { "at T" });
+        }
+    }
+    tally.finish(&[
+        "below zero",
+        "whole",
+        "with a remainder",
+        "at T",
+        "just above T",
+        "refusal 1",
+        "refusal 2",
+        "refusal 3",
+        "refusal 4",
+        "refusal 5",
+        "refusal 6",
+        "refusal 7",
     ]);
 }

@@ -3,7 +3,7 @@
 use crate::agreed;
 use crate::inputs::Inside;
 use crate::inputs::random::Random;
-use cerahupo::{Choice, Decision, Decision::No, Decision::Yes};
+use cerahupo::{Choice, Decision, Decision::No, Decision::Yes, Score};
 
 const BOOK_A: &str = "p sum 0\nr 0 40\nr 1 30\nr 2 30\np min 100\nr 3 20\n";
 
@@ -81,4 +81,52 @@ fn missing_defaults() {
         assert_eq!([says("", default - 1), says("", default)], [Yes, No], "{operator}");
         assert_eq!([says("o\n", -1), says("o\n", 0)], [Yes, No], "{operator} after an o");
     }
+}
+
+/// The score of condition 0: hundredths and remainder.
+fn score(book: &[u8], set: u16) -> (i64, u64) {
+    let Score { hundredths, remainder } = agreed::score(book, 0, set).expect("the book is accepted");
+    (hundredths, remainder)
+}
+
+/// A product of rules 0 to 7 with these scores.
+fn product(scores: [i64; 8]) -> String {
+    let rules: String = (0..8).map(|signal| format!("r {signal} {}\n", scores[signal])).collect();
+    format!("p mul\n{rules}")
+}
+
+/// Change request 3: the score of corner c, the finest products, a score below zero, the lowest and the highest.
+#[test]
+fn scores() {
+    assert_eq!(score(&with(BOOK_A, "c 50 < min(p0,p1)"), 11), (20, 0));
+    assert_eq!(score(&with(&product([1; 8]), "c 0 < p0"), 255), (0, 1));
+    assert_eq!(score(&with(&product([99; 8]), "c 0 < p0"), 255), (92, 27_446_944_279_201));
+    assert_eq!(score(&with("p max -5\nr 0 -20\n", "c -10 < p0"), 0), (-5, 0));
+    assert_eq!(score(&with("p max -10000\n", "c 0 < p0"), 0), (-10_000, 0));
+    let rules: String = (0..16).map(|signal| format!("r {signal} 10000\n")).collect();
+    assert_eq!(score(&with(&format!("p sum\n{rules}"), "c 0 < p0"), u16::MAX), (160_000, 0));
+}
+
+/// Two products of 25 hundredths that differ in the remainder alone: min and max tell them apart, and so does T.
+#[test]
+fn scores_that_differ_in_the_remainder() {
+    let policies = "p mul\nr 0 50\nr 1 50\np mul\nr 0 51\nr 1 50\n";
+    let says = |condition: &str| (score(&with(policies, condition), 3), say(&with(policies, condition), 3));
+    assert_eq!(says("c 25 < min(p0,p1)"), ((25, 0), No));
+    assert_eq!(says("c 25 < max(p0,p1)"), ((25, 50_000_000_000_000), Yes));
+    assert_eq!(says("c 25 >= min(p1,p0)"), ((25, 0), Yes));
+    assert_eq!(says("c 25 >= max(p1,p0)"), ((25, 50_000_000_000_000), No));
+}
+
+#[test]
+fn scores_printed() {
+    let printed = |hundredths, remainder| Score { hundredths, remainder }.to_string();
+    assert_eq!(printed(20, 0), "20 hundredths");
+    assert_eq!(printed(1, 0), "1 hundredth");
+    assert_eq!(printed(0, 1), "0.00000000000001 hundredths");
+    assert_eq!(printed(92, 27_446_944_279_201), "92.27446944279201 hundredths");
+    assert_eq!(printed(25, 50_000_000_000_000), "25.5 hundredths");
+    assert_eq!(printed(-5, 0), "-5 hundredths");
+    // No accepted book has such a score: rounded toward minus infinity, -6 and a fourth is -5.75.
+    assert_eq!(printed(-6, 25_000_000_000_000), "-5.75 hundredths");
 }

@@ -18,6 +18,11 @@ int main(void)
         printf("%" PRIu32 " ", words[i]);
     printf("\n%u policies, %u conditions\n", cerahupo_policies(checked), cerahupo_conditions(checked));
     printf("logger %d\n", cerahupo_yes(cerahupo_decide(book, length, 0, 3)));
+    uint64_t remainder = 77;
+    printf("none %u", cerahupo_number(cerahupo_score(book, length, 1, 3, &remainder)));
+    printf(" lent %" PRIu64 "\n", remainder);
+    printf("score %" PRId32, cerahupo_hundredths(cerahupo_score(book, length, 0, 3, &remainder)));
+    printf(" and %" PRIu64 "\n", remainder);
     printf("rod %d\n", cerahupo_yes(cerahupo_read(words, 4 * records, 3)));
     printf("never %d\n", cerahupo_choice_kind(cerahupo_choice(words, 4 * records)) == CERAHUPO_NEVER);
     printf("alike %d\n", cerahupo_alike(cerahupo_compare(words, 4 * records, never, 4)));

@@ -69,6 +69,7 @@ fn expected(number: u64) -> String {
     ]
     .map(|part| part.to_string())
     .join(" ")
+        + &format!(" {}", (value as i64 - 10_000) as i32)
 }
 
 #[test]
@@ -95,6 +96,7 @@ fn a_pair_in_c() {
     let output = Command::new(built("calls")).output().expect("the program was compiled");
     let text = String::from_utf8(output.stdout).expect("it prints words and digits");
     let listing = "5 3 0 2 16 3 3 0 4 3 0 0 ";
-    let told = ["1 policies, 1 conditions", "logger 1", "rod 1", "never 1", "alike 1"];
+    let told =
+        ["1 policies, 1 conditions", "logger 1", "none 7 lent 77", "score 2 and 0", "rod 1", "never 1", "alike 1"];
     assert_eq!(text.lines().collect::<Vec<_>>(), [&[listing], &told[..]].concat());
 }

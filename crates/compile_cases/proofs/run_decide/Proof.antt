@@ -56,8 +56,8 @@ part-decide-end c = search needs
 decide-requires-2 : tie.Need-decide-requires-2
 decide-requires-2 c κs = search needs
 
-print-score-requires : tie.Need-print-score-requires
-print-score-requires c κs = search needs
+print-logger-requires : tie.Need-print-logger-requires
+print-logger-requires c κs = search needs
 
 same-length : tie.Need-same-length
 same-length c = search needs
@@ -86,6 +86,6 @@ run-decide-spec =
     part-decide-start
     part-decide-end
     decide-requires-2
-    print-score-requires
+    print-logger-requires
     same-length
     returns)

@@ -7,7 +7,7 @@ mod groups;
 pub mod listing;
 mod scoring;
 
-use cerahupo::{Counts, Decision, Refusal};
+use cerahupo::{Counts, Decision, Refusal, Score};
 
 pub use compiling::compile;
 pub use groups::{choice, compare};
@@ -29,4 +29,9 @@ pub fn check(bytes: &[u8]) -> Result<Counts, Refusal> {
 pub fn decide(bytes: &[u8], condition: u32, set: u16) -> Result<Decision, Refusal> {
     let book = book::Book::read(bytes)?;
     Ok(decision(scoring::meets(&book, book.condition(condition)?, set)))
+}
+
+pub fn score(bytes: &[u8], condition: u32, set: u16) -> Result<Score, Refusal> {
+    let book = book::Book::read(bytes)?;
+    Ok(scoring::shown(&book, book.condition(condition)?, set))
 }

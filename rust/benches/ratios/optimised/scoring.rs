@@ -1,10 +1,21 @@
-//! The scored decision, in parts of 10 to the 16 a unit.
+//! The score and the scored decision, in parts of 10 to the 16 a unit.
 
 use super::book::{Book, Condition, Operator, Part, Policy};
+use cerahupo::Score;
 
 const HUNDREDTH: i128 = 10i128.pow(14);
 
 pub fn meets(book: &Book, condition: &Condition, set: u16) -> bool {
+    (expression_score(book, condition, set) > i128::from(condition.threshold) * HUNDREDTH) == condition.above
+}
+
+pub fn shown(book: &Book, condition: &Condition, set: u16) -> Score {
+    let parts = expression_score(book, condition, set);
+    // Scores below zero are whole hundredths, so this rounds none of them.
+    Score { hundredths: (parts / HUNDREDTH) as i64, remainder: (parts % HUNDREDTH) as u64 }
+}
+
+fn expression_score(book: &Book, condition: &Condition, set: u16) -> i128 {
     let mut scores = [0i128; 16];
     let mut waiting = 0;
     for part in &condition.parts {
@@ -17,7 +28,7 @@ pub fn meets(book: &Book, condition: &Condition, set: u16) -> bool {
         waiting -= 1;
         scores[waiting - 1] = if matches!(part, Part::Min) { left.min(right) } else { left.max(right) };
     }
-    (scores[0] > i128::from(condition.threshold) * HUNDREDTH) == condition.above
+    scores[0]
 }
 
 fn score(policy: &Policy, set: u16) -> i128 {

@@ -6,7 +6,7 @@ mod listing;
 mod score;
 mod translation;
 
-use cerahupo::{Choice, Comparison, Counts, Decision, Declined, Listing, Refusal};
+use cerahupo::{Choice, Comparison, Counts, Decision, Declined, Listing, Refusal, Score};
 
 pub use translation::{Node, words_of};
 
@@ -33,6 +33,11 @@ pub fn check(bytes: &[u8]) -> Result<Counts, Refusal> {
 pub fn decide(bytes: &[u8], condition: u32, set: u16) -> Result<Decision, Refusal> {
     let book = book::read(bytes)?;
     Ok(decision(score::meets(&book, condition_of(&book, condition)?, set)))
+}
+
+pub fn score(bytes: &[u8], condition: u32, set: u16) -> Result<Score, Refusal> {
+    let book = book::read(bytes)?;
+    Ok(score::shown(&book, condition_of(&book, condition)?, set))
 }
 
 pub fn compile(bytes: &[u8], condition: u32, lent: &mut [u32]) -> Result<u64, Refusal> {

@@ -1,11 +1,19 @@
 //! The scored decision. A score is a whole number of parts, 10 to the 16 a unit, so that a product of eight is exact.
 
 use super::book::{Book, Condition, Expression, Operator, Policy, Rule, Sense};
+use cerahupo::Score;
 
 const HUNDREDTH: i128 = 10i128.pow(14);
 
 pub fn meets(book: &Book, condition: &Condition, set: u16) -> bool {
     passes(condition, expression_score(book, &condition.expression, set))
+}
+
+/// The score of the condition's expression: hundredths rounded toward minus infinity, and the parts that are left.
+pub fn shown(book: &Book, condition: &Condition, set: u16) -> Score {
+    let parts = expression_score(book, &condition.expression, set);
+    let hundredths = parts.div_euclid(HUNDREDTH) as i64;
+    Score { hundredths, remainder: (parts - i128::from(hundredths) * HUNDREDTH) as u64 }
 }
 
 /// Whether a score meets the condition.
