@@ -2,7 +2,7 @@
 use Prim.Native.Nat.{ℕ, _+_, _-_, _*_, _/_, _^_, _≤_}
 use mathlib.Core.Bool.{Bool, true, false, cond, _&&_}
 use mathlib.Core.List.{List, [], _∷_}
-use mathlib.Core.Path.{_≡_, refl, sym, ap, subst, _∙_}
+use mathlib.Core.Path.{_≡_, refl, sym, ap, ap₂, subst, _∙_}
 use native.Mathlib.Nat.{mul-le-mul-right}
 use native.Mathlib.Omega.{arith}
 use lib.Dec.{leb}
@@ -96,7 +96,7 @@ total-natural [] h = (0, refl, omega arith)
 total-natural (r ∷ rs) h =
     let (s, e, l) = natural-score (r .score) (h .0) in
     let (n, f, k) = total-natural rs (h .1) in
-    (s + n, rw (e, f) refl, omega arith)
+    (s + n, ap₂ (λ (a b : ℤ). a +ℤ b) e f, omega arith)
 
 product-in-parts : (rs : List Rule) → InRange Mul rs → length rs ≤ 8 → (n : ℕ) × (scaledProduct rs ≡ pos n) × (n ≤ 100 ^ 8)
 unfolding scaledProduct scoreInRange within scoreFits
