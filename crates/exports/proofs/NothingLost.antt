@@ -85,7 +85,7 @@ unfolding scoreIn scoreValue remainderAfter
 score-again bytes number set lent x e =
     let (n, counted, few) = hundredths-natural bytes number set x (sym e) in
     let back : pos (natAbs (x .hundredths +ℤ pos 10000)) -ℤ pos 10000 ≡ x .hundredths =
-        ap (λ (z : ℤ). pos (natAbs z) -ℤ pos 10000) counted ∙ ap (λ (z : ℤ). z -ℤ pos 10000) (sym counted) ∙ +ℤ-negℤ-cancel (x .hundredths) (pos 10000) in
+    ap (λ (z : ℤ). pos (natAbs z) -ℤ pos 10000) counted ∙ ap (λ (z : ℤ). z -ℤ pos 10000) (sym counted) ∙ +ℤ-negℤ-cancel (x .hundredths) (pos 10000) in
     subst (λ (a : Answer Exact). scoreIn (remainderAfter lent a) (scoreValue x) ≡ x) e (rw back refl)
 
 choice-again : (c : Choice) → YesBelow c → choiceIn (choiceValue c) ≡ c

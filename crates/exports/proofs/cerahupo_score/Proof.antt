@@ -1,0 +1,111 @@
+-- `exports::cerahupo_score`: the score, its hundredths packed and its remainder in the lent number.
+use Prim.Native.Nat.{ℕ, _≤_}
+use mathlib.Core.Path.{_≡_, sym, ap, subst, _∙_}
+use native.Mathlib.Omega.{arith}
+use borrow.Author.Needs.{needs}
+use denote.Ref.{now}
+use lib.IntN.{ℤ, pos, natAbs, _+ℤ_}
+use mir.Syntax.{w64}
+use mir.Val.{SFits, toZ, ofZ}
+use Rattle.arith.proofs.Signed.{both-fit, both-back}
+use Rattle.score.specs.Shown.{shownAnswer}
+use Rattle.score.specs.Meaning.{shownMeaning}
+use Rattle.score.specs.declared.Evaluation.{Evaluation}
+use Rattle.score.proofs.PolicyLaws.{natural-fits}
+use Rattle.exports.specs.Packing.{asOne, packed, scoreValue, remainderAfter}
+use Rattle.exports.proofs.Refusals.{in-table}
+use Rattle.exports.proofs.BookRefusals.{scoring}
+use Rattle.exports.proofs.Results.{hundredths-natural}
+use Rattle.exports.proofs.cerahupo_score.Statement.{statement}
+use Rattle.exports.proofs.cerahupo_score.Tie as tie
+
+evaluate-requires : tie.Need-evaluate-requires
+evaluate-requires c κs = search needs
+
+enum-known-e : tie.Need-enum-known-e
+enum-known-e c = search needs
+
+-- the answer in an arm is the definition's
+answer : (c : tie.After-evaluate) (v : Evaluation) → c .evaluate .result ≡ v → let s = c .before .before in
+    shownMeaning v ≡ shownAnswer (now (s .args .bytes)) (s .args .condition) (s .args .set)
+answer c v e = sym (ap shownMeaning e) ∙ c .evaluate .ensures
+
+-- the hundredths, counted from the lowest
+module _ (c : tie.After-struct-told) where
+  abbrev hundredths : ℤ
+  hundredths = c .before .before .before .e .given .0 .0 .hundredths
+
+  fits : SFits w64 hundredths
+  fits = search needs
+
+  counted : (n : ℕ) × (hundredths +ℤ pos 10000 ≡ pos n) × (n ≤ 170000)
+  counted =
+      let e = c .before .before .before in
+      let s = e .before .before .before .before in
+      hundredths-natural (now (s .args .bytes)) (s .args .condition) (s .args .set) _ (sym (answer (e .before .before) _ (e .e .given .1)))
+
+  sum-fits : SFits w64 (hundredths +ℤ pos 10000)
+  sum-fits = let (n, e, l) = counted in subst (SFits w64) (sym e) (record { sfits = omega arith })
+
+  sum-back : toZ w64 (ofZ w64 (toZ w64 (ofZ w64 hundredths) +ℤ pos 10000)) ≡ hundredths +ℤ pos 10000
+  sum-back = both-back w64 _+ℤ_ hundredths (pos 10000) fits (record { sfits = omega arith }) sum-fits
+
+add-value : tie.Need-add-value
+add-value c = both-fit w64 _+ℤ_ (hundredths c) (pos 10000) (fits c) (record { sfits = omega arith }) (sum-fits c)
+
+cast-value : tie.Need-cast-value
+cast-value c = let (n, e, l) = counted c in natural-fits _ n (sum-back c ∙ e) (omega arith)
+
+accepted-requires : tie.Need-accepted-requires
+accepted-requires c κs = let (n, e, l) = counted c in omega (arith, ap natAbs (sum-back c ∙ e))
+
+enum-known-e-2 : tie.Need-enum-known-e-2
+enum-known-e-2 c = search needs
+
+refused-book-requires : tie.Need-refused-book-requires
+refused-book-requires c κs = omega (arith, in-table (scoring _ _ _) (answer (c .before .before .before) _ (c .before .e2 .given .1)))
+
+enum-told : tie.Need-enum-told
+enum-told c = search needs
+
+refused-requires : tie.Need-refused-requires
+refused-requires c κs = search needs
+
+returns : tie.Need-returns
+unfolding packed scoreValue remainderAfter
+returns c =
+    let t = c .before in
+    let e = t .before .before .before in
+    let told = answer (e .before .before) _ (e .e .given .1) in
+    (c .accepted .ensures ∙ ap (λ (z : ℤ). asOne 0 (natAbs z)) (sum-back t) ∙ ap (packed scoreValue) told, ap (remainderAfter _) told)
+
+returns-2 : tie.Need-returns-2
+unfolding packed remainderAfter
+returns-2 c =
+    let a = c .before .before in
+    let told = answer (a .before .before) _ (a .e2 .given .1) in
+    (c .refused-book .ensures ∙ ap (packed scoreValue) told, ap (remainderAfter _) told)
+
+returns-3 : tie.Need-returns-3
+unfolding packed remainderAfter
+returns-3 c =
+    let a = c .before in
+    let told = answer (a .before .before) _ (a .enum-told .given .1) in
+    (c .refused .ensures ∙ ap (packed scoreValue) told, ap (remainderAfter _) told)
+
+pub cerahupo-score-spec : {M : Type 1} → statement M
+cerahupo-score-spec =
+    tie.close
+    (tie.spec
+    evaluate-requires
+    enum-known-e
+    add-value
+    cast-value
+    accepted-requires
+    enum-known-e-2
+    refused-book-requires
+    enum-told
+    refused-requires
+    returns
+    returns-2
+    returns-3)
