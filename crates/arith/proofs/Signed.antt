@@ -1,15 +1,15 @@
 -- Signed numbers as the code holds them: a local holds bits, and `toZ w (ofZ w z)` is what is read back.
 -- `mag z` is n for n, and n for -(n + 1); a number fits where its `mag` is small enough.
-use Prim.Native.Nat.{ℕ, zero, suc, _+_, _≤_}
+use Prim.Native.Nat.{ℕ, zero, suc, _+_, _^_, _≤_, _<_}
 use mathlib.Core.Bool.{Bool, true, false, cond}
-use mathlib.Core.Path.{_≡_, ap, _∙_}
+use mathlib.Core.Path.{_≡_, sym, ap, subst, _∙_}
 use native.Mathlib.Omega.{arith}
-use lib.Dec.{ltb}
-use lib.IntN.{ℤ, pos, negsuc, negℤ, _+ℤ_, _-ℤ_}
-use lib.Signed.{mag, ltZ, leZ}
+use lib.Dec.{T, ltb}
+use lib.IntN.{ℤ, pos, negsuc, negℤ, natAbs, _+ℤ_, _-ℤ_}
+use lib.Signed.{mag, nonNeg, ltZ, leZ}
 use mir.Syntax.{Width, w32, w64}
-use mir.Val.{SFits, toZ, ofZ}
-use mir.Facts.{toZ-ofZ, sfits-widen}
+use mir.Val.{Fits, SFits, toZ, ofZ}
+use mir.Facts.{toZ-ofZ, sfits-widen, fits-of-lt}
 
 -- ---- sizes of sums and differences
 
@@ -50,6 +50,10 @@ module _ (z : ℤ) (h : SFits w32 z) where
   wide-back =
       ap (λ (y : ℤ). toZ w64 (ofZ w64 y)) (toZ-ofZ {w = w32} {z = z} h)
       ∙ toZ-ofZ {w = w64} {z = z} (sfits-widen {w = w32} {w′ = w64} tt h)
+
+-- a natural number as a u64
+pub natural-fits : (z : ℤ) (n : ℕ) → z ≡ pos n → n < 2 ^ 64 → T (nonNeg z) × Fits w64 (natAbs z)
+natural-fits z n e h = subst (λ (y : ℤ). T (nonNeg y) × Fits w64 (natAbs y)) (sym e) (tt, fits-of-lt {w = w64} h)
 
 -- a test, as a branch leaves it, said of the numbers
 module _ (w : Width) (a b : ℤ) (t : Bool) (ha : SFits w a) (hb : SFits w b) where

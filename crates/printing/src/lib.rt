@@ -11,7 +11,7 @@ pub fn print_number(n: u64) {
 fn print_signed(n: i64) {
     if n < 0 {
         print(b"-");
-        print_number((0 - (n + 1)) as u64 + 1);
+        print_number((-1 - n) as u64 + 1);
     } else {
         print_number(n as u64);
     }

@@ -2,15 +2,12 @@
 use Prim.Native.Nat.{ℕ, zero, suc, _+_, _-_, _*_, _^_, _≤_}
 use mathlib.Core.List.{List, [], _∷_}
 use mathlib.Core.Path.{_≡_, refl, sym, ap, subst, _∙_}
-use lib.Dec.{T}
 use native.Mathlib.Nat.{le-trans, pow-le-pow-right}
 use native.Mathlib.Numerals.{add-one}
 use native.Mathlib.Omega.{arith}
-use lib.IntN.{ℤ, pos, natAbs, _+ℤ_, _*ℤ_, +ℤ-idr}
+use lib.IntN.{ℤ, pos, _+ℤ_, _*ℤ_, +ℤ-idr}
 use lib.ListN.{length}
-use lib.Signed.{mag, nonNeg}
-use mir.Syntax.{w64}
-use mir.Val.{Fits}
+use lib.Signed.{mag}
 use Rattle.arith.proofs.Signed.{mag-add}
 use Rattle.arith.proofs.Whole.{times-one}
 use Rattle.peal.specs.Policies.{Rule, Policy, MinMax, smaller, larger}
@@ -58,11 +55,6 @@ applied-sum r rs = ap scaled (over-sum r rs)
 pub applied-mul : (r : Rule) (rs : List Rule) → over Mul r rs *ℤ pos (100 ^ (8 - length (r ∷ rs))) ≡ applied Mul r rs
 unfolding applied scaledProduct
 applied-mul r rs = ap (λ (z : ℤ). z *ℤ pos (100 ^ (8 - length (r ∷ rs)))) (over-mul r rs)
-
--- ---- a product of scores, as the code holds it
-
-pub natural-fits : (z : ℤ) (n : ℕ) → z ≡ pos n → n ≤ 10 ^ 16 → T (nonNeg z) × Fits w64 (natAbs z)
-natural-fits z n e h = subst (λ (y : ℤ). T (nonNeg y) × Fits w64 (natAbs y)) (sym e) (tt, omega arith)
 
 -- ---- one rule more
 

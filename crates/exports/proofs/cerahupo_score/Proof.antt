@@ -7,11 +7,10 @@ use denote.Ref.{now}
 use lib.IntN.{ℤ, pos, natAbs, _+ℤ_}
 use mir.Syntax.{w64}
 use mir.Val.{SFits, toZ, ofZ}
-use Rattle.arith.proofs.Signed.{both-fit, both-back}
+use Rattle.arith.proofs.Signed.{both-fit, both-back, natural-fits}
 use Rattle.score.specs.Shown.{shownAnswer}
 use Rattle.score.specs.Meaning.{shownMeaning}
 use Rattle.score.specs.declared.Evaluation.{Evaluation}
-use Rattle.score.proofs.PolicyLaws.{natural-fits}
 use Rattle.exports.specs.Packing.{asOne, packed, scoreValue, remainderAfter}
 use Rattle.exports.proofs.Refusals.{in-table}
 use Rattle.exports.proofs.BookRefusals.{scoring}

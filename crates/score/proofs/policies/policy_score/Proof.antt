@@ -8,9 +8,10 @@ use lib.IntN.{ℤ, pos, natAbs, _*ℤ_}
 use mir.Syntax.{w64}
 use mir.Val.{SFits, toZ, ofZ}
 use mir.ValLaws.{toZ-ofZ}
+use Rattle.arith.proofs.Signed.{natural-fits}
 use Rattle.peal.specs.Score.{scaled}
 use Rattle.score.specs.Pairs.{Is}
-use Rattle.score.proofs.PolicyLaws.{applied-min, applied-max, applied-sum, natural-fits}
+use Rattle.score.proofs.PolicyLaws.{applied-min, applied-max, applied-sum}
 use Rattle.score.proofs.RuleLaws.{none-present, whole-score, product-score, product-natural, product-few}
 use Rattle.score.proofs.policies.policy_score.Statement.{statement}
 use Rattle.score.proofs.policies.policy_score.Tie as tie
@@ -63,7 +64,7 @@ cast-of-product : tie.Need-cast-of-product
 cast-of-product c =
     let n = natural c in
     natural-fits (toZ w64 (ofZ w64 (c .before .before .before .before .before .present-rules .result .value))) (n .0) (n .1)
-    (le-trans (n .2) (pow-le-pow-right {n = 100} (omega arith) {j = 8} (n .3)))
+    (omega (arith, le-trans (n .2) (pow-le-pow-right {n = 100} (omega arith) {j = 8} (n .3))))
 
 of-product-requires : tie.Need-of-product-requires
 of-product-requires c κs = let n = natural c in (omega (arith, n .2, ap natAbs (n .1)), n .3)
