@@ -1,4 +1,5 @@
--- Claimed: the number that a call returns, and for the score the one lent to it, tells its whole answer, for every input. Proved in proofs/NothingLost.antt.
+-- Claimed: the number that a call returns, for a score with the one lent to it, tells its whole answer, for every input.
+-- Proved in proofs/NothingLost.antt.
 use Prim.Native.Nat.{ℕ}
 use mathlib.Core.List.{List}
 use mathlib.Core.Path.{_≡_}

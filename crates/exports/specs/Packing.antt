@@ -2,10 +2,13 @@
 -- The code is 0 where the call was accepted, and else the refusal's number, of which there is room for 1 to 20;
 -- the refusals 9 and 10 of the second listing of a comparison have the codes 25 and 26.
 use Prim.Native.Nat.{ℕ, _+_, _*_}
+use mathlib.Core.List.{List}
+use mathlib.Core.Path.{_≡_}
 use lib.IntN.{pos, natAbs, _+ℤ_}
 use Rattle.answers.specs.Answers.{Answer, result, refused}
 use Rattle.checks.specs.Checks.{Choice, always, never, both, Comparison, alike, differ, declined, first, second}
 use Rattle.book.specs.Books.{Counts}
+use Rattle.score.specs.Shown.{shownAnswer}
 use Rattle.score.specs.declared.exact.Exact.{Exact}
 
 abbrev pub asOne : (code value : ℕ) → ℕ
@@ -34,6 +37,11 @@ scoreValue x = natAbs (x .hundredths +ℤ pos 10000)
 unfoldable pub remainderAfter : ℕ → Answer Exact → ℕ
 remainderAfter lent (result x) = x .remainder
 remainderAfter lent (refused number value) = lent
+
+-- the score's call: the number that it returned, and the one that it left
+pub record ScoreTold (bytes : List ℕ) (condition set lent returned left : ℕ) : Type 0 where
+  pub number : returned ≡ packed scoreValue (shownAnswer bytes condition set)
+  pub remainder : left ≡ remainderAfter lent (shownAnswer bytes condition set)
 
 -- compiling: the number of records itself
 abbrev pub itself : ℕ → ℕ

@@ -11,9 +11,8 @@ ghost use Rattle.checks.specs.Checks.{choice, comparison};
 ghost use Rattle.book.specs.Books.{checked};
 ghost use Rattle.book.specs.Meaning.{reasonNumber};
 ghost use Rattle.score.specs.Decisions.{scoredAnswer};
-ghost use Rattle.score.specs.Shown.{shownAnswer};
 ghost use Rattle.compiler.specs.Compiling.{compiled, returned, lentAfter};
-ghost use Rattle.exports.specs.Packing.{asOne, packed, countsValue, scoreValue, remainderAfter, itself, choiceValue, packedComparison};
+ghost use Rattle.exports.specs.Packing.{asOne, packed, countsValue, ScoreTold, itself, choiceValue, packedComparison};
 
 // In a value: the weight of what stands from bit 16 of the number on.
 const FROM_BIT_16: u64 = 2048;
@@ -97,14 +96,13 @@ pub extern "C" fn cerahupo_decide(bytes: &[u8], condition: u32, set: u16) -> u64
 
 #[no_mangle]
 pub extern "C" fn cerahupo_score(bytes: &[u8], condition: u32, set: u16, remainder: &mut u64) -> u64
-    ensures { λ r. ⌜ r ≡ packed scoreValue (shownAnswer (now (bytes .entry)) condition set) ⌝ }
-    ensures { λ r. ⌜ now (remainder .exit) ≡ remainderAfter (now (remainder .entry)) (shownAnswer (now (bytes .entry)) condition set) ⌝ }
+    ensures { λ r. ⌜ ScoreTold (now (bytes .entry)) condition set (now (remainder .entry)) r (now (remainder .exit)) ⌝ }
 {
-    let e = score::evaluate(bytes, condition, set);
-    match e {
-        score::Evaluation::Score(x) => {
-            let value = (x.hundredths + BELOW_ZERO) as u64;
-            *remainder = x.remainder;
+    let evaluation = score::evaluate(bytes, condition, set);
+    match evaluation {
+        score::Evaluation::Score(exact) => {
+            let value = (exact.hundredths + BELOW_ZERO) as u64;
+            *remainder = exact.remainder;
             accepted(value)
         }
         score::Evaluation::Refused(refusal) => refused_book(refusal),

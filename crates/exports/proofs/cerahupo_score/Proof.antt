@@ -21,8 +21,8 @@ use Rattle.exports.proofs.cerahupo_score.Tie as tie
 evaluate-requires : tie.Need-evaluate-requires
 evaluate-requires c κs = search needs
 
-enum-known-e : tie.Need-enum-known-e
-enum-known-e c = search needs
+enum-known-evaluation : tie.Need-enum-known-evaluation
+enum-known-evaluation c = search needs
 
 -- the answer in an arm is the definition's
 answer : (c : tie.After-evaluate) (v : Evaluation) → c .evaluate .result ≡ v → let s = c .before .before in
@@ -32,7 +32,7 @@ answer c v e = sym (ap shownMeaning e) ∙ c .evaluate .ensures
 -- the hundredths, counted from the lowest
 module _ (c : tie.After-struct-told) where
   abbrev hundredths : ℤ
-  hundredths = c .before .before .before .e .given .0 .0 .hundredths
+  hundredths = c .before .before .before .evaluation .given .0 .0 .hundredths
 
   fits : SFits w64 hundredths
   fits = search needs
@@ -41,7 +41,7 @@ module _ (c : tie.After-struct-told) where
   counted =
       let e = c .before .before .before in
       let s = e .before .before .before .before in
-      hundredths-natural (now (s .args .bytes)) (s .args .condition) (s .args .set) _ (sym (answer (e .before .before) _ (e .e .given .1)))
+      hundredths-natural (now (s .args .bytes)) (s .args .condition) (s .args .set) _ (sym (answer (e .before .before) _ (e .evaluation .given .1)))
 
   sum-fits : SFits w64 (hundredths +ℤ pos 10000)
   sum-fits = let (n, e, l) = counted in subst (SFits w64) (sym e) (record { sfits = omega arith })
@@ -58,11 +58,11 @@ cast-value c = let (n, e, l) = counted c in natural-fits _ n (sum-back c ∙ e) 
 accepted-requires : tie.Need-accepted-requires
 accepted-requires c κs = let (n, e, l) = counted c in omega (arith, ap natAbs (sum-back c ∙ e))
 
-enum-known-e-2 : tie.Need-enum-known-e-2
-enum-known-e-2 c = search needs
+enum-known-evaluation-2 : tie.Need-enum-known-evaluation-2
+enum-known-evaluation-2 c = search needs
 
 refused-book-requires : tie.Need-refused-book-requires
-refused-book-requires c κs = omega (arith, in-table (scoring _ _ _) (answer (c .before .before .before) _ (c .before .e2 .given .1)))
+refused-book-requires c κs = omega (arith, in-table (scoring _ _ _) (answer (c .before .before .before) _ (c .before .evaluation2 .given .1)))
 
 enum-told : tie.Need-enum-told
 enum-told c = search needs
@@ -75,33 +75,33 @@ unfolding packed scoreValue remainderAfter
 returns c =
     let t = c .before in
     let e = t .before .before .before in
-    let told = answer (e .before .before) _ (e .e .given .1) in
-    (c .accepted .ensures ∙ ap (λ (z : ℤ). asOne 0 (natAbs z)) (sum-back t) ∙ ap (packed scoreValue) told, ap (remainderAfter _) told)
+    let told = answer (e .before .before) _ (e .evaluation .given .1) in
+    record { number = c .accepted .ensures ∙ ap (λ (z : ℤ). asOne 0 (natAbs z)) (sum-back t) ∙ ap (packed scoreValue) told; remainder = ap (remainderAfter _) told }
 
 returns-2 : tie.Need-returns-2
 unfolding packed remainderAfter
 returns-2 c =
     let a = c .before .before in
-    let told = answer (a .before .before) _ (a .e2 .given .1) in
-    (c .refused-book .ensures ∙ ap (packed scoreValue) told, ap (remainderAfter _) told)
+    let told = answer (a .before .before) _ (a .evaluation2 .given .1) in
+    record { number = c .refused-book .ensures ∙ ap (packed scoreValue) told; remainder = ap (remainderAfter _) told }
 
 returns-3 : tie.Need-returns-3
 unfolding packed remainderAfter
 returns-3 c =
     let a = c .before in
     let told = answer (a .before .before) _ (a .enum-told .given .1) in
-    (c .refused .ensures ∙ ap (packed scoreValue) told, ap (remainderAfter _) told)
+    record { number = c .refused .ensures ∙ ap (packed scoreValue) told; remainder = ap (remainderAfter _) told }
 
 pub cerahupo-score-spec : {M : Type 1} → statement M
 cerahupo-score-spec =
     tie.close
     (tie.spec
     evaluate-requires
-    enum-known-e
+    enum-known-evaluation
     add-value
     cast-value
     accepted-requires
-    enum-known-e-2
+    enum-known-evaluation-2
     refused-book-requires
     enum-told
     refused-requires
