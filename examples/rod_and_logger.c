@@ -1,6 +1,6 @@
 /* An office, a rod and a logger in one program: condition 0 of a book is compiled and checked, and on a few signal sets the rod
- * is asked by the listing and the logger by the book, which shows its score too. The book is document 01's, or the file named on
- * the command line.
+ * is asked by the listing and the logger by the book; the logger shows its score too. The book is document 01's, or the file named
+ * on the command line.
  *
  *     rt staticlib exports
  *     cc -O2 -Iinclude examples/rod_and_logger.c target/staticlib/libexports.a -o target/rod_and_logger
@@ -65,7 +65,7 @@ static void print_score(size_t length, uint16_t set)
     uint64_t remainder;
     uint64_t score = cerahupo_score(book, length, 0, set, &remainder);
     if (cerahupo_accepted(score))
-        printf(", score %" PRId32 ".%014" PRIu64, cerahupo_hundredths(score), remainder);
+        printf(", score %" PRId32 ".%014" PRIu64 " hundredths", cerahupo_hundredths(score), remainder);
 }
 
 static void ask_both(size_t length, size_t records)

@@ -14,7 +14,7 @@
  * too. Every content has an answer: none has to be checked before a call. Nothing is written but the words lent to
  * cerahupo_compile and the number lent to cerahupo_score.
  *
- * A call returns one number, which tells its whole answer:
+ * A call returns one number, which tells its whole answer, but for the remainder of a score:
  *
  *     bits 0 to 4    the code: 0 where the call was accepted, else the refusal's number, for which 1 to 20 are kept (document
  *                    01's table has 1 to 10); 25 and 26 are the refusals 9 and 10 of the second listing of a comparison
@@ -43,10 +43,11 @@ uint64_t cerahupo_check(const uint8_t *book, size_t book_length);
  * decided, one with an excluded pair too. Result: yes or no. Refusals: those of the book, then 7. */
 uint64_t cerahupo_decide(const uint8_t *book, size_t book_length, uint32_t condition, uint16_t set);
 
-/* The score by which cerahupo_decide decides: E of the condition on the set, exact. Result: its hundredths, -10,000 to 160,000,
- * rounded toward minus infinity; what is left, in parts of which a hundredth has 10 to the 14, is written to *remainder, which
- * the book must not overlap. T is less than E exactly when the hundredths exceed T, or equal it with a remainder above 0.
- * Refusals: those of cerahupo_decide; on a refusal *remainder is not written. */
+/* The score by which cerahupo_decide decides, for loggers: E of the condition's line `c T < E` or `c T >= E` on the set, exact.
+ * Result: its hundredths, rounded toward minus infinity, -10,000 to 160,000. The rest, counted in parts of which a hundredth has 10
+ * to the 14, 0 to 99,999,999,999,999, is written to *remainder, which is never NULL and which the book must not overlap. T is less
+ * than E exactly when the hundredths exceed T, or equal it with a remainder above 0. Refusals: those of cerahupo_decide; on a
+ * refusal *remainder is not written. */
 uint64_t cerahupo_score(const uint8_t *book, size_t book_length, uint32_t condition, uint16_t set, uint64_t *remainder);
 
 /* Compiling a condition of the book into the lent words, which the book must not overlap. Result: the number of records, those

@@ -44,7 +44,7 @@ pub enum Decision {
 
 /// The score of a condition's expression, exact: hundredths, rounded toward minus infinity, and what is left in parts of
 /// which a hundredth has 10 to the 14. A threshold T is less than it exactly when the hundredths exceed T, or equal it
-/// with a remainder above zero. Scores are in order as they are compared; printed, they are exact decimals.
+/// with a remainder above zero. `<` and `==` on two scores go by their value; printed, a score is an exact decimal.
 #[derive(Clone, Copy, Debug, PartialEq, Eq, PartialOrd, Ord)]
 pub struct Score {
     pub hundredths: i64,

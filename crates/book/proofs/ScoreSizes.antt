@@ -1,6 +1,6 @@
 -- How large the scores of accepted rules are, and that they are fit for the search.
 use Prim.Native.Nat.{ℕ, zero, suc, _≤_}
-use mathlib.Core.Bool.{Bool, true, false, cond}
+use mathlib.Core.Bool.{true}
 use mathlib.Core.List.{List}
 use mathlib.Core.Path.{_≡_, refl}
 use native.Mathlib.Omega.{arith}
@@ -12,8 +12,7 @@ use borrow.Author.Tests.{leb-true}
 use Rattle.arith.specs.Lists.{Each}
 use Rattle.arith.proofs.Members.{each-in, each-out}
 use Rattle.arith.proofs.Tests.{and-left, and-right, clash}
-use Rattle.peal.specs.Policies.{Rule, MinMax, smaller, larger}
-use Rattle.peal.specs.Score.{ofTwo}
+use Rattle.peal.specs.Policies.{Rule}
 use Rattle.peal.specs.SearchFindsLines.{scoreFits, RulesFit}
 use Rattle.peal.specs.declared.Operator.{Operator}
 use Rattle.peal.specs.declared.Operator.the-variants.{Min, Max, Sum, Mul}
@@ -39,15 +38,6 @@ InScore o r = scoreInRange o (r .score) ≡ true
 
 abbrev pub InRange : Operator → List Rule → Type 0
 InRange o rules = Each (InScore o) rules
-
-one-mag : (t : Bool) (v w : ℤ) (n : ℕ) → mag v ≤ n → mag w ≤ n → mag (cond t v w) ≤ n
-one-mag true v w n p q = p
-one-mag false v w n p q = q
-
-pub two-mag : (m : MinMax) (v w : ℤ) (n : ℕ) → mag v ≤ n → mag w ≤ n → mag (ofTwo m v w) ≤ n
-unfolding ofTwo
-two-mag smaller v w n p q = one-mag (leZ v w) v w n p q
-two-mag larger v w n p q = one-mag (leZ v w) w v n q p
 
 -- as many rules as a policy may have
 abbrev pub Room : Operator → ℕ → Type 0

@@ -17,10 +17,11 @@ use Rattle.peal.specs.Combining.{combinedOf}
 use Rattle.peal.specs.declared.Operator.{Operator}
 use Rattle.peal.specs.declared.Operator.the-variants.{Min, Max, Sum, Mul}
 use Rattle.peal.proofs.HavingLaws.{product-natural}
+use Rattle.peal.proofs.TwoLaws.{one-of-two}
 use Rattle.book.specs.Acceptance.{within, scoreInRange}
 use Rattle.book.specs.declared.cells.Policy.{Policy as StoredPolicy}
 use Rattle.book.proofs.StoredRules.{count-is}
-use Rattle.book.proofs.ScoreSizes.{score-mag, two-mag, InScore, InRange, Room}
+use Rattle.book.proofs.ScoreSizes.{score-mag, InScore, InRange, Room}
 use Rattle.compiler.specs.Worth.{start, worth}
 use Rattle.compiler.specs.Planning.{restOf, nextRule, RulesInRange, RulesKept}
 use Rattle.compiler.proofs.WorthLaws.{product-worth}
@@ -37,9 +38,9 @@ bound Mul n = 100 ^ n
 worth-mag : (o : Operator) (X : List Rule) → InRange o X → mag (worth o X) ≤ bound o (length X)
 unfolding worth start combinedOf scoreInRange within scoreFits
 worth-mag Min [] h = omega arith
-worth-mag Min (r ∷ X) h = two-mag smaller (r .score) (worth Min X) 200001 (omega (arith, score-mag Min (r .score) (h .0))) (worth-mag Min X (h .1))
+worth-mag Min (r ∷ X) h = one-of-two (λ (z : ℤ). mag z ≤ 200001) smaller (r .score) (worth Min X) (omega (arith, score-mag Min (r .score) (h .0))) (worth-mag Min X (h .1))
 worth-mag Max [] h = omega arith
-worth-mag Max (r ∷ X) h = two-mag larger (r .score) (worth Max X) 200001 (omega (arith, score-mag Max (r .score) (h .0))) (worth-mag Max X (h .1))
+worth-mag Max (r ∷ X) h = one-of-two (λ (z : ℤ). mag z ≤ 200001) larger (r .score) (worth Max X) (omega (arith, score-mag Max (r .score) (h .0))) (worth-mag Max X (h .1))
 worth-mag Sum [] h = omega arith
 worth-mag Sum (r ∷ X) h = omega (arith, score-mag Sum (r .score) (h .0), worth-mag Sum X (h .1), mag-add (r .score) (worth Sum X))
 worth-mag Mul X h = let p = product-natural X h in subst (λ (z : ℤ). mag z ≤ 100 ^ length X) (sym (sym (product-worth X) ∙ p .1)) (p .2)

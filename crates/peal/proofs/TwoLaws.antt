@@ -1,5 +1,5 @@
 -- Two scores against a threshold: the larger is above it where one of them is, the smaller where both are; and the same turned over.
--- The smaller and the larger of several do not see how they are grouped and ordered.
+-- The smaller and the larger of several do not see how they are grouped and ordered, and are one of them.
 use mathlib.Core.Bool.{Bool, true, false, not, cond, _&&_, _||_, Bool·not-not}
 use mathlib.Core.Path.{_≡_, refl, sym, ap, _∙_}
 use lib.IntN.{ℤ}
@@ -8,6 +8,15 @@ use Rattle.arith.proofs.Order.{ltZ-not, leZ-refl, leZ-trans, leZ-antisym, leZ-t
 use Rattle.arith.proofs.Tests.{clash, not-or, or-first, or-second}
 use Rattle.peal.specs.Policies.{MinMax, smaller, larger}
 use Rattle.peal.specs.Score.{ofTwo}
+
+either : (P : ℤ → Type 0) (t : Bool) (a b : ℤ) → P a → P b → P (cond t a b)
+either P true a b p q = p
+either P false a b p q = q
+
+pub one-of-two : (P : ℤ → Type 0) (m : MinMax) (a b : ℤ) → P a → P b → P (ofTwo m a b)
+unfolding ofTwo
+one-of-two P smaller a b p q = either P (leZ a b) a b p q
+one-of-two P larger a b p q = either P (leZ a b) b a q p
 
 pub not-ltZ : (a b : ℤ) → leZ a b ≡ not (ltZ b a)
 not-ltZ a b = sym (ap not (ltZ-not b a) ∙ Bool·not-not (leZ a b))

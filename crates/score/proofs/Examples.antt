@@ -60,7 +60,7 @@ below-zero : shows "p max -5\nr 0 -20\nc -10 < p0\n" 0 ≡ pair (negsuc 4) 0
 unfolding scoreComputes
 below-zero = refl
 
--- no score below zero has a remainder; if one had, it would be rounded down: -5.75 is 25 hundredths of a hundredth above -6
+-- no score below zero has a remainder; if one had, it would be rounded down: -5.75 is -6 and a fourth
 rounded-down : shown (negsuc 574999999999999) ≡ record { hundredths = negsuc 5; remainder = 25000000000000 }
 unfolding scoreComputes
 rounded-down = refl

@@ -17,8 +17,9 @@ use Rattle.peal.specs.declared.Operator.{Operator}
 use Rattle.peal.specs.declared.Operator.the-variants.{Min, Max, Sum, Mul}
 use Rattle.peal.specs.SearchFindsLines.{scoreFits}
 use Rattle.peal.proofs.HavingLaws.{product-natural}
+use Rattle.peal.proofs.TwoLaws.{one-of-two}
 use Rattle.book.specs.Acceptance.{within, scoreInRange}
-use Rattle.book.proofs.ScoreSizes.{score-mag, two-mag, InRange, Room}
+use Rattle.book.proofs.ScoreSizes.{score-mag, InRange, Room}
 use Rattle.score.specs.PolicyScores.{over, presentOf, valueWith, withScore}
 use Rattle.score.specs.declared.policies.Present.{Present}
 
@@ -97,9 +98,9 @@ mul-natural r rs h = let p = product-natural (r ∷ rs) h in (p .0, over-mul r r
 over-mag : (o : Operator) (r : Rule) (rs : List Rule) → InRange o (r ∷ rs) → mag (over o r rs) ≤ bound o (length (r ∷ rs))
 unfolding over combinedOf
 over-mag Min r [] h = score-mag Min (r .score) (h .0)
-over-mag Min r (q ∷ rs) h = two-mag smaller (r .score) (over Min q rs) 10000 (score-mag Min (r .score) (h .0)) (over-mag Min q rs (h .1))
+over-mag Min r (q ∷ rs) h = one-of-two (λ (z : ℤ). mag z ≤ 10000) smaller (r .score) (over Min q rs) (score-mag Min (r .score) (h .0)) (over-mag Min q rs (h .1))
 over-mag Max r [] h = score-mag Max (r .score) (h .0)
-over-mag Max r (q ∷ rs) h = two-mag larger (r .score) (over Max q rs) 10000 (score-mag Max (r .score) (h .0)) (over-mag Max q rs (h .1))
+over-mag Max r (q ∷ rs) h = one-of-two (λ (z : ℤ). mag z ≤ 10000) larger (r .score) (over Max q rs) (score-mag Max (r .score) (h .0)) (over-mag Max q rs (h .1))
 over-mag Sum r [] h = omega (arith, score-mag Sum (r .score) (h .0))
 over-mag Sum r (q ∷ rs) h = omega (arith, score-mag Sum (r .score) (h .0), over-mag Sum q rs (h .1), mag-add (r .score) (over Sum q rs))
 over-mag Mul r rs h = let t = mul-natural r rs h in subst (λ (z : ℤ). mag z ≤ 100 ^ length (r ∷ rs)) (sym (t .1)) (t .2)

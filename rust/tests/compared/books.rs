@@ -109,6 +109,9 @@ fn count_default(decision: Decision, book: &[u8], condition: u32, set: u16, tall
     }
 }
 
+/// What a book's decision and its score may be refused by.
+const REFUSALS: [&str; 7] = ["refusal 1", "refusal 2", "refusal 3", "refusal 4", "refusal 5", "refusal 6", "refusal 7"];
+
 /// A condition of the book, or a number that it has none of, and a set.
 fn question(book: &[u8], random: &mut Random) -> (u32, u16) {
     let conditions = reference::check(book).map_or(1, |counts| counts.conditions);
@@ -131,19 +134,7 @@ fn decide() {
             count_default(decision, book.slice(), condition, set, &mut tally);
         }
     }
-    tally.finish(&[
-        "yes",
-        "no",
-        "refusal 1",
-        "refusal 2",
-        "refusal 3",
-        "refusal 4",
-        "refusal 5",
-        "refusal 6",
-        "refusal 7",
-        "another answer with o",
-        "another answer without o",
-    ]);
+    tally.finish(&[&REFUSALS[..], &["yes", "no", "another answer with o", "another answer without o"]].concat());
 }
 
 /// The threshold and the sign of a condition of an accepted book.
@@ -181,18 +172,5 @@ fn score() {
             tally.count(if answer.is_ok_and(|score| score.remainder > 0) { "just above T" } else { "at T" });
         }
     }
-    tally.finish(&[
-        "below zero",
-        "whole",
-        "with a remainder",
-        "at T",
-        "just above T",
-        "refusal 1",
-        "refusal 2",
-        "refusal 3",
-        "refusal 4",
-        "refusal 5",
-        "refusal 6",
-        "refusal 7",
-    ]);
+    tally.finish(&[&REFUSALS[..], &["below zero", "whole", "with a remainder", "at T", "just above T"]].concat());
 }
