@@ -13,8 +13,8 @@ use Rattle.peal.specs.declared.Sense.the-variants.{Above, AtMost}
 use Rattle.book.specs.Books.{asked}
 use Rattle.score.specs.declared.exact.Exact.{Exact}
 
--- a score in parts, of which a hundredth has 10 to the 14, as a pair: the hundredths, and the parts beyond them;
--- of n + 1 parts below zero the last hundredth counts whole, and what is left of it is the remainder
+-- a score in parts, of which a hundredth has 10 to the 14, as a pair: whole hundredths, and the parts beyond them;
+-- below zero they are rounded down too, and the remainder counts up from them
 unfoldable pub shown : ℤ → Exact
 shown (pos n) = record { hundredths = pos (n / 10 ^ 14); remainder = n % 10 ^ 14 }
 shown (negsuc n) = record { hundredths = negsuc (n / 10 ^ 14); remainder = 10 ^ 14 - 1 - n % 10 ^ 14 }
@@ -42,7 +42,7 @@ ofPairs larger x y = cond (atMost x y) y x
 unfoldable pub exceeds : ℤ → Exact → Bool
 exceeds t x = ltZ t (x .hundredths) || equal t (x .hundredths) && ltb 0 (x .remainder)
 
--- a pair meets the condition: T is less than it, or it is not
+-- a pair meets `c T < E` where T is less than it, and `c T >= E` where it is not
 unfoldable pub meetsShown : Sense → ℤ → Exact → Bool
 meetsShown Above t x = exceeds t x
 meetsShown AtMost t x = not (exceeds t x)

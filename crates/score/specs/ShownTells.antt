@@ -16,7 +16,8 @@ use Rattle.score.specs.Shown.{shown, shownAnswer, ofPairs, exceeds, meet
 use Rattle.score.specs.declared.exact.Exact.{Exact}
 
 pub record ShownTells : Type 0 where
-  -- the remainder is 0 up to one below 10 to the 14, and beside the hundredths it makes the score: nothing is rounded away
+  -- the remainder is 0 up to one below 10 to the 14, and is what the score has beyond the hundredths: these are rounded toward
+  -- minus infinity, and nothing is lost
   pub small : (v : ℤ) → shown v .remainder < 10 ^ 14
   pub exact : (v : ℤ) → scaled (shown v .hundredths) +ℤ pos (shown v .remainder) ≡ v
   -- there is no other such pair
@@ -26,7 +27,7 @@ pub record ShownTells : Type 0 where
       → shown (score ps set e) ≡ treeValue ofPairs (λ n. shown (policyScore set (policyAt ps n))) e
   -- T is less than E exactly when the hundredths exceed T, or equal it with a remainder above zero
   pub above : (t v : ℤ) → ltZ (scaled t) v ≡ exceeds t (shown v)
-  -- so the decision is told by the score that is shown, in both senses, and one is refused where the other is
+  -- so the decision is what the shown score tells, in both senses: they never contradict each other, and are refused alike
   pub decides : (bytes : List ℕ) (number set : ℕ)
       → scoredAnswer bytes number set
       ≡ onResult (asked bytes number) (λ (b, c). onResult (shownAnswer bytes number set) (λ x. result (meetsShown (c .sense) (c .threshold) x)))
