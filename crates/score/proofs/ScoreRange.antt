@@ -40,7 +40,7 @@ abbrev highest : ℤ
 highest = pos 160000
 
 -- between them, in hundredths and in parts
-abbrev InHundredths : ℤ → Type 0
+abbrev pub InHundredths : ℤ → Type 0
 InHundredths z = within lowest highest z ≡ true
 
 abbrev InParts : ℤ → Type 0

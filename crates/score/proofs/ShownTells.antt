@@ -1,14 +1,12 @@
 -- What is shown is the score, and tells the decision.
 use Prim.Native.Nat.{ℕ}
-use mathlib.Core.Bool.{Bool, true}
+use mathlib.Core.Bool.{Bool}
 use mathlib.Core.List.{List}
 use mathlib.Core.Path.{_≡_, refl, ap, subst}
-use lib.IntN.{pos, negℤ}
 use Rattle.answers.specs.Answers.{Answer, result, refused, onResult}
 use Rattle.answers.proofs.Results.{gone-on, result-is}
 use Rattle.peal.specs.Policies.{Condition, Book}
 use Rattle.peal.specs.Score.{score, decision}
-use Rattle.book.specs.Acceptance.{within}
 use Rattle.book.specs.Books.{asked}
 use Rattle.book.proofs.AskedLaws.{asked-in-range}
 use Rattle.score.specs.Decisions.{scoredAnswer}
@@ -16,7 +14,7 @@ use Rattle.score.specs.Shown.{shown, shownAnswer, meetsShown}
 use Rattle.score.specs.ShownTells.{ShownTells}
 use Rattle.score.specs.declared.exact.Exact.{Exact}
 use Rattle.score.proofs.ShownLaws.{is-shown, pair-shown, above-shown, meets-shown, shown-expression}
-use Rattle.score.proofs.ScoreRange.{shown-in-range}
+use Rattle.score.proofs.ScoreRange.{InHundredths, shown-in-range}
 
 module _ (bytes : List ℕ) (number set : ℕ) where
   told-by-shown : scoredAnswer bytes number set
@@ -29,11 +27,11 @@ module _ (bytes : List ℕ) (number set : ℕ) where
       go (result (b, c)) = ap (λ (t : Bool). result t) (meets-shown (c .sense) (c .threshold) (score (b .policies) set (c .expression)))
       go (refused k v) = refl
 
-  in-range : (x : Exact) → shownAnswer bytes number set ≡ result x → within (negℤ (pos 10000)) (pos 160000) (x .hundredths) ≡ true
+  in-range : (x : Exact) → shownAnswer bytes number set ≡ result x → InHundredths (x .hundredths)
   unfolding shownAnswer
   in-range x h =
       let ((b, c), e, f) = gone-on (asked bytes number) _ x h in
-      subst (λ (y : Exact). within (negℤ (pos 10000)) (pos 160000) (y .hundredths) ≡ true) (result-is f)
+      subst (λ (y : Exact). InHundredths (y .hundredths)) (result-is f)
       (shown-in-range (b .policies) set (c .expression) (asked-in-range bytes number b c e .0 .policies))
 
 pub shown-tells : ShownTells
