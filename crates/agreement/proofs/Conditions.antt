@@ -9,8 +9,8 @@ use Rattle.answers.specs.Answers.{result}
 use Rattle.arith.specs.Lists.{Each}
 use Rattle.arith.specs.Trees.{leaf, join, mapTree, treeValue}
 use Rattle.arith.proofs.Each.{each-default}
-use Rattle.layout.specs.Nodes.{ListedTree}
-use Rattle.layout.specs.WellFormed.{TreeFits, policyCount}
+use Rattle.layout.specs.Nodes.{ListedPolicy, ListedTree}
+use Rattle.layout.specs.WellFormed.{PolicyFits, TreeFits, policyCount}
 use Rattle.rod.specs.Reading.{policyValue, joined}
 use Rattle.rod.proofs.Trees.{rod-tree}
 use Rattle.peal.specs.Policies.{Policy, MinMax, smaller, larger, Expression, Condition, Book, emptyPolicy, policyAt}
@@ -43,21 +43,30 @@ pub policy-in-range : (ps : List Policy) → Each PolicyInRange ps → (n : ℕ)
 unfolding policyAt
 policy-in-range ps ranges n = each-default PolicyInRange ps n emptyPolicy ranges empty-in-range
 
-module _ (ps : List Policy) (s : Sense) (t : ℤ) where
-  -- the tree of an expression
-  abbrev pub tree : Expression → ListedTree
-  tree e = mapTree (joinOf s) (λ n. listed s t (policyAt ps n)) e
-
-  tree-policies : (e : Expression) → policyCount (tree e) ≡ mentionCount e
+-- the tree of an expression, whatever record stands for a mention
+module _ (s : Sense) (recordOf : ℕ → ListedPolicy) where
+  pub tree-policies : (e : Expression) → policyCount (mapTree (joinOf s) recordOf e) ≡ mentionCount e
   unfolding mapTree policyCount mentionCount treeValue
   tree-policies (leaf n) = refl
   tree-policies (join m a b) = ap₂ (λ (x y : ℕ). x + y) (tree-policies a) (tree-policies b)
 
+  pub tree-fits : ((n : ℕ) → PolicyFits (recordOf n)) → (e : Expression) → TreeFits (mapTree (joinOf s) recordOf e)
+  unfolding mapTree
+  tree-fits fits (leaf n) = fits n
+  tree-fits fits (join m a b) = (tree-fits fits a, tree-fits fits b)
+
+module _ (ps : List Policy) (s : Sense) (t : ℤ) where
+  -- the record of a mention
+  abbrev pub recordAt : ℕ → ListedPolicy
+  recordAt n = listed s t (policyAt ps n)
+
+  -- the tree of an expression
+  abbrev pub tree : Expression → ListedTree
+  tree e = mapTree (joinOf s) recordAt e
+
   module _ (ranges : Each PolicyInRange ps) where
-    tree-fits : (e : Expression) → TreeFits (tree e)
-    unfolding mapTree
-    tree-fits (leaf n) = listed-fits s t (policyAt ps n) (signals-fit (policyAt ps n) (policy-in-range ps ranges n))
-    tree-fits (join m a b) = (tree-fits a, tree-fits b)
+    record-fits : (n : ℕ) → PolicyFits (recordAt n)
+    record-fits n = listed-fits s t (policyAt ps n) (signals-fit (policyAt ps n) (policy-in-range ps ranges n))
 
     tree-agrees : (set : ℕ) (e : Expression) → treeValue joined (policyValue set) (tree e) ≡ meets s t (score ps set e)
     unfolding mapTree treeValue score
@@ -69,11 +78,12 @@ module _ (ps : List Policy) (s : Sense) (t : ℤ) where
 module _ (b : Book) (c : Condition) where
   pub condition-policies : mentionCount (c .expression) ≤ 16 → policyCount (translated (b .policies) c) ≤ 16
   unfolding translated
-  condition-policies room = omega (arith, tree-policies (b .policies) (c .sense) (c .threshold) (c .expression))
+  condition-policies room = omega (arith, tree-policies (c .sense) (recordAt (b .policies) (c .sense) (c .threshold)) (c .expression))
 
   pub condition-fits : Each PolicyInRange (b .policies) → TreeFits (translated (b .policies) c)
   unfolding translated
-  condition-fits ranges = tree-fits (b .policies) (c .sense) (c .threshold) ranges (c .expression)
+  condition-fits ranges =
+      tree-fits (c .sense) (recordAt (b .policies) (c .sense) (c .threshold)) (record-fits (b .policies) (c .sense) (c .threshold) ranges) (c .expression)
 
 pub condition-agreement : ConditionAgreement
 unfolding listingRecords translated decision

@@ -1,18 +1,23 @@
--- Computed examples of the rod's reading of a condition just compiled, and of what rod and logger say of it.
+-- Computed examples of the rod's reading of a condition just compiled, of what rod and logger say of it, and of a listing from before change request 4.
 use Prim.Native.Nat.{ℕ}
 use Prim.Native.String.{String, _++_}
 use mathlib.Core.Bool.{Bool, true, false}
-use mathlib.Core.List.{[], _∷_}
+use mathlib.Core.List.{List, [], _∷_}
 use mathlib.Core.Path.{_≡_, refl}
 use lib.ListN.{replicate}
-use Rattle.answers.specs.Answers.{Answer, result, refused}
+use Rattle.answers.specs.Answers.{Answer, result, refused, onResult}
+use Rattle.layout.specs.Records.{words}
 use Rattle.rod.specs.Computing.{rodComputes}
+use Rattle.peal.specs.Policies.{Condition, Book}
+use Rattle.peal.specs.Having.{has}
 use Rattle.book.specs.Text.{bytes}
+use Rattle.book.specs.Books.{asked}
 use Rattle.score.specs.Decisions.{scoredAnswer}
 use Rattle.score.specs.Computing.{scoreComputes}
 use Rattle.compiler.specs.Computing.{compilerComputes}
 use Rattle.agreement.specs.CompiledReading.{compiledReading}
 use Rattle.agreement.specs.Both.{Sayings, bothSay}
+use Rattle.agreement.specs.OldListings.{minimalBefore, linesBefore, listedBefore, recordsBefore}
 
 -- a book whose listing has two records, and just enough words
 abbrev reads : ℕ → ℕ → Answer Bool
@@ -77,3 +82,14 @@ missing-old-no = refl
 missing-old-yes : say ("o\n" ++ doubts) 3 ≡ (result true, result true)
 unfolding doubts compiledReading compilerComputes rodComputes scoreComputes
 missing-old-yes = refl
+
+-- ---- a listing from before change request 4
+
+-- the words of the book's first condition as they were
+abbrev wordsBefore : String → Answer (List ℕ)
+wordsBefore text = onResult (asked (bytes text) 0) (λ (found : Book × Condition). result (words (recordsBefore (found .0) (found .1))))
+
+-- case h as document 01 has it: kind 17, one line, mask 0
+before-h : wordsBefore "p sum 0\nr 0 40\nr 1 30\nr 2 30\nc -1 < p0\n" ≡ result (17 ∷ 7 ∷ 2 ∷ 0 ∷ 4 ∷ 0 ∷ 0 ∷ 0 ∷ [])
+unfolding minimalBefore linesBefore listedBefore recordsBefore has compilerComputes
+before-h = refl

@@ -5,6 +5,7 @@ pub mod Words
 pub mod Books
 pub mod LineMasks
 pub mod Demand3
+pub mod OldListings
 pub mod Readings
 pub mod BothLaws
 pub mod Examples

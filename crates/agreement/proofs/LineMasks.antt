@@ -1,18 +1,20 @@
 -- The masks of a policy's lines are those of its minimal sets, each once: a mask tells which of some rules with different signals it was made of.
 use Prim.Native.Nat.{ℕ, _+_, _^_, _<_}
-use mathlib.Core.Bool.{Bool, false, _||_}
-use mathlib.Core.List.{List, _∷_, map, map-map, map-id, List·Memᴰ, Memᴰ·map, Memᴰ·of-map, List·Permᴰ, Permᴰ·symm, Permᴰ·exists-sublist, Sublistᴰ, Sublistᴰ·slnil, Sublistᴰ·cons, Sublistᴰ·cons-cons}
+use mathlib.Core.Bool.{Bool, true, false, _||_}
+use mathlib.Core.List.{List, [], _∷_, map, map-map, map-id, List·Memᴰ, Memᴰ·map, Memᴰ·of-map, List·Permᴰ, Permᴰ·symm, Permᴰ·exists-sublist, Sublistᴰ, Sublistᴰ·slnil, Sublistᴰ·cons, Sublistᴰ·cons-cons}
 use mathlib.Core.Path.{_≡_, refl, sym, ap, ap₂, subst, _∙_}
 use native.Mathlib.Omega.{arith}
 use lib.IntN.{ℤ}
 use lib.ListN.{length}
+use lib.Pow.{pow-pos}
 use borrow.Author.Tests.{eq-eqb, ne-eqb}
-use Rattle.arith.specs.Lists.{keep, Each, isIn, Distinct}
+use Rattle.arith.specs.Lists.{keep, nonEmpty, Each, isIn, Distinct}
 use Rattle.arith.proofs.Distinct.{absent-each}
 use Rattle.arith.proofs.DistinctLists.{distinct-inside, inside-map}
 use Rattle.arith.proofs.Each.{each-map, map-same}
 use Rattle.arith.proofs.Members.{each-in, each-out}
-use Rattle.arith.proofs.Reordering.{same-reordered, length-reordered}
+use Rattle.arith.proofs.Reordering.{same-reordered, length-reordered, some-reordered}
+use Rattle.arith.proofs.Tests.{clash}
 use Rattle.signals.specs.Sets.{present, setOf}
 use Rattle.signals.proofs.SetOfLaws.{present-set}
 use Rattle.peal.specs.Policies.{Rule, Policy}
@@ -69,13 +71,19 @@ mask-reordered : {X Y : List Rule} → List·Permᴰ X Y → maskOf X ≡ maskOf
 unfolding maskOf setOf
 mask-reordered d = same-reordered maskOf (λ a b X. omega arith) (λ a X Y e. ap (λ (m : ℕ). 2 ^ (a .signal) + m) e) d
 
+mask-some : (X : List Rule) → nonEmpty X ≡ true → 0 < maskOf X
+unfolding maskOf setOf
+mask-some [] h = clash h refl
+mask-some (r ∷ X) h = omega (arith, pow-pos (r .signal))
+
 minimal-reordered : (o : Operator) (t : ℤ) {X Y : List Rule} → List·Permᴰ X Y → IsMinimal (has o t) X → IsMinimal (has o t) Y
-minimal-reordered o t {X} {Y} d h = record { holds = sym (has-reordered o t d) ∙ h .holds; noSmaller = smaller }
+minimal-reordered o t {X} {Y} d h =
+    record { some = sym (some-reordered d) ∙ h .some; holds = sym (has-reordered o t d) ∙ h .holds; noSmaller = smaller }
   where
-    smaller : (Z : List Rule) → SetInside Z Y → length Z < length Y → has o t Z ≡ false
-    smaller Z s l =
+    smaller : (Z : List Rule) → SetInside Z Y → nonEmpty Z ≡ true → length Z < length Y → has o t Z ≡ false
+    smaller Z s k l =
         let (W, q, i) = Permᴰ·exists-sublist (Permᴰ·symm d) s in
-        sym (has-reordered o t q) ∙ h .noSmaller W i (omega (arith, length-reordered q, length-reordered d))
+        sym (has-reordered o t q) ∙ h .noSmaller W i (some-reordered q ∙ k) (omega (arith, l, length-reordered q, length-reordered d))
 
 -- ---- the lines of a policy
 
@@ -117,4 +125,9 @@ module _ (p : Policy) (t : ℤ) (fit : SignalsFit (p .rules)) where
       (order-map (λ (X Y : List Rule). X ≡ Y → ⊥) told (map maskOf sets) (rw sets-told (minimal-sets .once)))
 
   pub masks-minimal : MinimalMasks p t (map maskOf sets)
-  masks-minimal = record { exactly = λ m. (line-minimal m, minimal-line m); once = masks-once }
+  masks-minimal =
+      record {
+        exactly = λ m. (line-minimal m, minimal-line m);
+        once = masks-once;
+        demands = λ m k. let x = line-minimal m k in omega (arith, x .same, mask-some (x .rules) (x .minimal .some));
+      }

@@ -1,5 +1,5 @@
 -- Claimed: demand 3, of the calls as they run. Proved in proofs/Demand3.antt.
-use Prim.Native.Nat.{ℕ, _≤_}
+use Prim.Native.Nat.{ℕ, _≤_, _<_}
 use mathlib.Core.Bool.{Bool}
 use mathlib.Core.List.{List, map, Forall₂}
 use mathlib.Core.Logic.{_↔_}
@@ -58,17 +58,20 @@ pub data SaySame : RodDecision → LoggerDecision → Type 0 where
 
 -- ---- the lines
 
--- the mask of a minimal set of the policy's rules: in sum one whose sum exceeds T, in mul one whose product in units is at most T divided by 100
+-- the mask of a minimal non-empty set of the policy's rules: in sum one whose sum exceeds T, in mul one whose product in units is at most T divided
+-- by 100; in max and min a single rule with V above T, or at most T
 pub record MinimalMask (p : Policy) (t : ℤ) (mask : ℕ) : Type 0 where
   pub rules : List Rule
   pub ofPolicy : SetInside rules (p .rules)
   pub minimal : IsMinimal (has (p .operator) t) rules
   pub same : mask ≡ maskOf rules
 
--- the lines are exactly the minimal sets, each once
+-- the lines are exactly the minimal non-empty sets, each once
 pub record MinimalMasks (p : Policy) (t : ℤ) (lines : List ℕ) : Type 0 where
   pub exactly : (line : ℕ) → Among line lines ↔ MinimalMask p t line
   pub once : InOrder (λ (line later : ℕ). line ≡ later → ⊥) lines
+  -- so each demands a signal
+  pub demands : (line : ℕ) → Among line lines → 0 < line
 
 -- what stands in a listing for a node of the expression: for a mention a policy with its minimal sets, for min and max an "and" or "or"
 abbrev pub StandsFor : List Policy → Condition → Node MinMax ℕ → ListedNode → Type 0
@@ -89,7 +92,7 @@ pub record MinimalListing (bytes : List ℕ) (number : ℕ) (listing : List ℕ)
 -- ---- the demand
 
 -- compiling returned records, not a refusal; on the compiled listing, the first words as compiling left them, rod and logger say the
--- same of every signal set; and its lines are the minimal sets
+-- same of every signal set; and its lines are the minimal non-empty sets
 pub record Agreed (bytes : List ℕ) (number : ℕ) (left : List ℕ) (answer : Compiled) : Type 0 where
   pub count : ℕ
   pub compiles : answer ≡ Records count

@@ -5,4 +5,5 @@ pub mod BookAgreement
 pub mod CompiledReading
 pub mod Meaning
 pub mod Demand3
+pub mod OldListings
 pub mod Both

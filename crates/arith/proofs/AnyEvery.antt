@@ -1,12 +1,12 @@
 -- Laws of tests over lists: that any member passes, and that every member does.
 use Prim.Native.Nat.{ℕ, _+_, _≤_, _<_}
-use mathlib.Core.Bool.{Bool, true, false, not, cond, _&&_, _||_, or-assoc, and-true}
+use mathlib.Core.Bool.{Bool, true, false, not, cond, _&&_, _||_, or-assoc, and-assoc}
 use mathlib.Core.List.{List, [], _∷_, _++_, map, List·Memᴰ, List·Memᴰ·head, List·Memᴰ·tail}
 use mathlib.Core.Path.{_≡_, refl, sym, ap, ap₂, _∙_}
 use native.Mathlib.Numerals.{add-one}
 use lib.ListN.{length, getD, drop, drop-of-length-le}
 use lib.Seq.{drop-cons}
-use Rattle.arith.specs.Lists.{every, any, keep}
+use Rattle.arith.specs.Lists.{every, any, keep, nonEmpty}
 use Rattle.arith.proofs.Tests.{clash, and-swap, or-right, or-swap}
 
 module _ {A : Type 0} (test : A → Bool) where
@@ -85,6 +85,10 @@ module _ {A : Type 0} (test : A → Bool) where
   every-all h [] = refl
   every-all h (x ∷ xs) = rw (h x) (every-all h xs)
 
+  pub every-append : (xs ys : List A) → every test (xs ++ ys) ≡ (every test xs && every test ys)
+  every-append [] ys = refl
+  every-append (x ∷ xs) ys = rw (every-append xs ys) (sym (and-assoc (test x) (every test xs) (every test ys)))
+
   pub every-same : (other : A → Bool) (xs : List A) → ((x : A) → test x ≡ other x) → every test xs ≡ every other xs
   every-same other [] h = refl
   every-same other (x ∷ xs) h = ap₂ (λ (a b : Bool). a && b) (h x) (every-same other xs h)
@@ -98,8 +102,13 @@ module _ {A : Type 0} (test : A → Bool) where
       go false b c d = refl
 
 -- some member passes exactly if any are kept
-pub any-kept : {A : Type 0} (test : A → Bool) (xs : List A) → any test xs ≡ any (λ x. true) (keep test xs)
-any-kept test xs = sym (any-keep (λ x. true) test xs ∙ any-same (λ x. test x && true) test xs (λ x m. and-true (test x)))
+pub any-kept : {A : Type 0} (test : A → Bool) (xs : List A) → any test xs ≡ nonEmpty (keep test xs)
+any-kept test [] = refl
+any-kept {A} test (x ∷ xs) = go (test x) (any-kept test xs)
+  where
+    go : (t : Bool) → any test xs ≡ nonEmpty (keep test xs) → (t || any test xs) ≡ nonEmpty (cond t (x ∷ keep test xs) (keep test xs))
+    go true i = refl
+    go false i = i
 
 module _ {A B : Type 0} (f : A → B) (test : B → Bool) where
   pub any-map : (xs : List A) → any test (map f xs) ≡ any (λ x. test (f x)) xs

@@ -1,8 +1,8 @@
 -- Laws of the members that pass a test, and of those from a place on.
 use Prim.Native.Nat.{ℕ, zero, suc, _≤_}
 use mathlib.Core.Bool.{Bool, true, false, cond}
-use mathlib.Core.List.{List, [], _∷_, _++_}
-use mathlib.Core.Path.{_≡_, refl, ap}
+use mathlib.Core.List.{List, [], _∷_, _++_, List·Memᴰ, List·Memᴰ·head, List·Memᴰ·tail}
+use mathlib.Core.Path.{_≡_, refl, ap, ap₂}
 use native.Mathlib.Omega.{arith}
 use lib.ListN.{length, drop}
 use Rattle.arith.specs.Lists.{keep, Each}
@@ -27,6 +27,12 @@ module _ {A : Type 0} (test : A → Bool) where
   pub keep-all : (xs : List A) → Each (λ (x : A). test x ≡ true) xs → keep test xs ≡ xs
   keep-all [] h = refl
   keep-all (x ∷ xs) h = rw (h .0) (ap {B = List A} (λ l. x ∷ l) (keep-all xs (h .1)))
+
+  -- another test that says the same of each member
+  pub keep-same : (other : A → Bool) (xs : List A) → ((x : A) → List·Memᴰ x xs → test x ≡ other x) → keep test xs ≡ keep other xs
+  keep-same other [] h = refl
+  keep-same other (x ∷ xs) h =
+      ap₂ (λ (t : Bool) (l : List A). cond t (x ∷ l) l) (h x (List·Memᴰ·head refl)) (keep-same other xs (λ y m. h y (List·Memᴰ·tail m)))
 
   pub keep-append : (xs ys : List A) → keep test (xs ++ ys) ≡ keep test xs ++ keep test ys
   keep-append [] ys = refl

@@ -4,6 +4,7 @@ pub mod Each
 pub mod Keep
 pub mod Members
 pub mod Sublists
+pub mod NonEmpty
 pub mod Subsets
 pub mod Reordering
 pub mod Distinct

@@ -4,7 +4,7 @@ use mathlib.Core.Bool.{Bool, true, false, cond, _||_}
 use mathlib.Core.List.{List, _∷_, List·Memᴰ, List·Permᴰ, List·Permᴰ·nil, List·Permᴰ·cons, List·Permᴰ·swap, List·Permᴰ·trans, Permᴰ·refl}
 use mathlib.Core.Path.{_≡_, refl, ap, subst, _∙_}
 use lib.ListN.{length}
-use Rattle.arith.specs.Lists.{any, keep, Each}
+use Rattle.arith.specs.Lists.{any, keep, nonEmpty, Each}
 use Rattle.arith.proofs.Members.{each-in, each-out}
 use Rattle.arith.proofs.Tests.{or-swap}
 
@@ -49,6 +49,9 @@ module _ {A : Type 0} where
 
   pub length-reordered : {X Y : List A} → List·Permᴰ X Y → length X ≡ length Y
   length-reordered d = same-reordered length (λ a b X. refl) (λ a X Y e. ap suc e) d
+
+  pub some-reordered : {X Y : List A} → List·Permᴰ X Y → nonEmpty X ≡ nonEmpty Y
+  some-reordered d = same-reordered nonEmpty (λ a b X. refl) (λ a X Y e. refl) d
 
   pub any-reordered : (test : A → Bool) {X Y : List A} → List·Permᴰ X Y → any test X ≡ any test Y
   any-reordered test d =

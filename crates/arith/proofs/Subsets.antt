@@ -1,13 +1,13 @@
 -- Laws of `subsets`: it lists the sublists of a list.
 use Prim.Native.Nat.{_^_}
 use mathlib.Core.Bool.{Bool, false, cond}
-use mathlib.Core.List.{List, [], _∷_, map, map-append, map-map, List·Memᴰ, List·Memᴰ·head, List·Memᴰ·append-cases, List·Memᴰ·eq-of-singleton, Memᴰ·append-left, Memᴰ·append-right, Memᴰ·map, Memᴰ·of-map, Memᴰ·cast, Sublistᴰ, Sublistᴰ·slnil, Sublistᴰ·cons, Sublistᴰ·cons-cons}
+use mathlib.Core.List.{List, [], _∷_, _++_, map, append-assoc, map-append, map-map, List·Memᴰ, List·Memᴰ·head, List·Memᴰ·append-cases, List·Memᴰ·eq-of-singleton, Memᴰ·append-left, Memᴰ·append-right, Memᴰ·map, Memᴰ·of-map, Memᴰ·cast, Sublistᴰ, Sublistᴰ·slnil, Sublistᴰ·cons, Sublistᴰ·cons-cons}
 use mathlib.Core.Logic.{⊎-elim}
 use mathlib.Core.Path.{_≡_, refl, sym, ap, _∙_}
 use native.Mathlib.Nat.{two-pow-succ}
 use native.Mathlib.Omega.{arith}
 use lib.ListN.{length, length-append, length-map}
-use Rattle.arith.specs.Lists.{keep, subsets}
+use Rattle.arith.specs.Lists.{keep, nonEmpty, subsets}
 use Rattle.arith.proofs.Keep.{keep-append}
 use Rattle.arith.proofs.Members.{keep-none}
 
@@ -44,6 +44,26 @@ module _ {A : Type 0} where
       none =
           keep-none test (map (λ (Z : List A). f (x ∷ Z)) (subsets X)) (λ Y m.
           let r = Memᴰ·of-map (λ (Z : List A). f (x ∷ Z)) (subsets X) m in ap test (sym (r .2)) ∙ h x (r .0))
+
+  -- ---- those that are not empty
+
+  with-one : (x : A) (Ls : List (List A)) → keep nonEmpty (map (λ Y. x ∷ Y) Ls) ≡ map (λ Y. x ∷ Y) Ls
+  with-one x [] = refl
+  with-one x (L ∷ Ls) = ap (λ (Ms : List (List A)). (x ∷ L) ∷ Ms) (with-one x Ls)
+
+  -- of one member more: those with it, and those without it
+  pub subsets-more : (x : A) (X : List A) → keep nonEmpty (subsets (x ∷ X)) ≡ map (λ Y. x ∷ Y) (subsets X) ++ keep nonEmpty (subsets X)
+  subsets-more x X =
+      keep-append nonEmpty (map (λ Y. x ∷ Y) (subsets X)) (subsets X)
+      ∙ ap (λ (Ls : List (List A)). Ls ++ keep nonEmpty (subsets X)) (with-one x (subsets X))
+
+  -- the empty one stands last
+  pub subsets-last : (X : List A) → subsets X ≡ keep nonEmpty (subsets X) ++ ([] ∷ [])
+  subsets-last [] = refl
+  subsets-last (x ∷ X) =
+      ap (λ (Ls : List (List A)). map (λ Y. x ∷ Y) (subsets X) ++ Ls) (subsets-last X)
+      ∙ sym (append-assoc (map (λ Y. x ∷ Y) (subsets X)) (keep nonEmpty (subsets X)) ([] ∷ []))
+      ∙ ap (λ (Ls : List (List A)). Ls ++ ([] ∷ [])) (sym (subsets-more x X))
 
 pub subsets-map : {A B : Type 0} (f : A → B) (X : List A) → map (λ Y. map f Y) (subsets X) ≡ subsets (map f X)
 subsets-map f [] = refl

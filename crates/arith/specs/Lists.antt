@@ -22,6 +22,11 @@ module _ {A : Type 0} where
   keep test [] = []
   keep test (x ∷ xs) = cond (test x) (x ∷ keep test xs) (keep test xs)
 
+  -- there is a member
+  abbrev pub nonEmpty : List A → Bool
+  nonEmpty [] = false
+  nonEmpty (x ∷ xs) = true
+
   -- every list that leaves out some members, or none: those with the first member before those without it
   abbrev pub subsets : List A → List (List A)
   subsets [] = [] ∷ []

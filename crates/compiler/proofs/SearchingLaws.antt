@@ -170,51 +170,31 @@ module _ {op : Operator} {plan : List ℤ} {count : ℕ} {value : ℤ} {left : �
     pub all-tell : {l z : ℤ} → l ≡ getD plan ((count + left) * 4) (pos 0) → z ≡ combinedOf op v w → reachedOf op l z ≡ has o t all
     all-tell f k = tells all (h .range) (count + left) all-count (omega (arith, h .inside, h .taken .count)) f (k ∙ all-worth)
 
--- ---- the search, by whether the property is there
+-- ---- how many sets are found
 
-module _ (property : List Rule → Bool) (X : List Rule) where
-  from-itself : property X ≡ true → (rest : List Rule) → foundFrom property X rest ≡ X ∷ []
+module _ (property : List Rule → Bool) where
+  -- at most one set for each set of the rules still to come
+  from-few : (X rest : List Rule) → length (foundFrom property X rest) ≤ 2 ^ length rest
   unfolding foundFrom
-  from-itself h [] = rw h
-  from-itself h (r ∷ rest) = rw h
+  from-few X [] = omega arith
+  from-few X (r ∷ rest) = go (property (X ++ (r ∷ rest))) (property Y) (from-few Y rest) (from-few X rest)
+    where
+      Y : List Rule
+      Y = X ++ (r ∷ [])
 
-  module _ (lacks : property X ≡ false) where
-    from-nothing : foundFrom property X [] ≡ []
-    unfolding foundFrom
-    from-nothing = rw lacks
+      some : 1 ≤ 2 ^ length rest
+      some = let h : 0 ≤ length rest = omega arith in pow-le-pow-right {n = 2} (omega arith) h
 
-    module _ (r : Rule) (rest : List Rule) where
-      from-stop : property (X ++ (r ∷ rest)) ≡ false → foundFrom property X (r ∷ rest) ≡ []
-      unfolding foundFrom
-      from-stop h = rw (lacks, h)
+      -- with the next rule, and without it
+      both : (F : List (List Rule)) → length F ≤ 2 ^ length rest → length (foundFrom property X rest) ≤ 2 ^ length rest
+          → length (F ++ foundFrom property X rest) ≤ 2 ^ suc (length rest)
+      both F m n = omega (arith, m, n, pow-suc 2 (length rest), length-append F (foundFrom property X rest))
 
-      from-further : property (X ++ (r ∷ rest)) ≡ true → foundFrom property X (r ∷ rest) ≡ foundFrom property (X ++ (r ∷ [])) rest ++ foundFrom property X rest
-      unfolding foundFrom
-      from-further h = rw (lacks, h)
-
--- at most one set for each set of the rules still to come
-from-few : (property : List Rule → Bool) (X rest : List Rule) → length (foundFrom property X rest) ≤ 2 ^ length rest
-unfolding foundFrom
-from-few property X [] = go (property X)
-  where
-    go : (b : Bool) → length (cond b (X ∷ []) []) ≤ 1
-    go true = omega arith
-    go false = omega arith
-from-few property X (r ∷ rest) = go (from-few property (X ++ (r ∷ [])) rest) (from-few property X rest) (property X) (property (X ++ (r ∷ rest)))
-  where
-    with-it : List (List Rule)
-    with-it = foundFrom property (X ++ (r ∷ [])) rest
-
-    without : List (List Rule)
-    without = foundFrom property X rest
-
-    doubled : 2 ^ suc (length rest) ≡ 2 ^ length rest * 2
-    doubled = pow-suc 2 (length rest)
-
-    go : length with-it ≤ 2 ^ length rest → length without ≤ 2 ^ length rest → (b c : Bool) → length (cond b (X ∷ []) (cond c (with-it ++ without) [])) ≤ 2 ^ suc (length rest)
-    go m n true c = let h : 0 ≤ suc (length rest) = omega arith in pow-le-pow-right {n = 2} (omega arith) h
-    go m n false true = omega (arith, doubled, length-append with-it without)
-    go m n false false = omega arith
+      go : (a b : Bool) → length (foundFrom property Y rest) ≤ 2 ^ length rest → length (foundFrom property X rest) ≤ 2 ^ length rest
+          → length (cond a (cond b (Y ∷ []) (foundFrom property Y rest) ++ foundFrom property X rest) []) ≤ 2 ^ suc (length rest)
+      go true true m n = both (Y ∷ []) some n
+      go true false m n = both (foundFrom property Y rest) m n
+      go false b m n = omega arith
 
 pub found-few : {op : Operator} {plan : List ℤ} {count : ℕ} {value : ℤ} {left : ℕ} {q : Policy} {t : ℤ} {X : List Rule} → Searching op plan count value left q t X
     → length (found q t X left) ≤ 65536
@@ -222,6 +202,20 @@ unfolding found
 found-few {left = left} {q} {t} {X} h =
     let few : length (restOf left (q .rules)) ≤ 16 = omega (arith, length-append X (restOf left (q .rules)), h .range .few) in
     le-trans (from-few (has (q .operator) t) X (restOf left (q .rules))) (pow-le-pow-right {n = 2} (omega arith) few)
+
+-- ---- a set that is tried
+
+-- what is found once a set is tried: the set alone where it has the property, and otherwise what is found beyond it
+pub tried : Policy → ℤ → List Rule → ℕ → List (List Rule)
+tried q t Y left = cond (has (q .operator) t Y) (Y ∷ []) (found q t Y left)
+
+pub tried-itself : (q : Policy) (t : ℤ) (Y : List Rule) (k : ℕ) → has (q .operator) t Y ≡ true → tried q t Y k ≡ Y ∷ []
+unfolding tried
+tried-itself q t Y k h = rw h
+
+pub tried-further : (q : Policy) (t : ℤ) (Y : List Rule) (k : ℕ) → has (q .operator) t Y ≡ false → tried q t Y k ≡ found q t Y k
+unfolding tried
+tried-further q t Y k h = rw h
 
 -- ---- the beginning: no rule is taken
 
@@ -317,24 +311,21 @@ module _ {op : Operator} {plan : List ℤ} {count : ℕ} {value : ℤ} {left : �
 
   -- ---- what is found
 
-  module _ (lacks : has (q .operator) t X ≡ false) where
-    abbrev property : List Rule → Bool
-    property Y = has (q .operator) t Y
+  -- by whether all the rules have the property
+  found-by : {b : Bool} → has (q .operator) t (X ++ restOf left (q .rules)) ≡ b
+      → found q t X left ≡ cond b (tried q t (X ++ (next ∷ [])) (left - 1) ++ found q t X (left - 1)) []
+  unfolding found tried foundFrom
+  found-by h = rw (coming, rw coming at h)
 
-    pub nothing-found : property (X ++ restOf left (q .rules)) ≡ false → found q t X left ≡ []
-    unfolding found
-    nothing-found n = ap (foundFrom property X) coming ∙ from-stop property X lacks next after (ap (λ (Y : List Rule). property (X ++ Y)) (sym coming) ∙ n)
+  pub nothing-found : has (q .operator) t (X ++ restOf left (q .rules)) ≡ false → found q t X left ≡ []
+  nothing-found h = found-by h
 
-    pub found-further : property (X ++ restOf left (q .rules)) ≡ true → found q t X left ≡ found q t (X ++ (next ∷ [])) (left - 1) ++ found q t X (left - 1)
-    unfolding found
-    found-further y = ap (foundFrom property X) coming ∙ from-further property X lacks next after (ap (λ (Y : List Rule). property (X ++ Y)) (sym coming) ∙ y)
+  pub found-further : has (q .operator) t (X ++ restOf left (q .rules)) ≡ true
+      → found q t X left ≡ tried q t (X ++ (next ∷ [])) (left - 1) ++ found q t X (left - 1)
+  found-further h = found-by h
 
-pub found-itself : (q : Policy) (t : ℤ) (Y : List Rule) (k : ℕ) → has (q .operator) t Y ≡ true → found q t Y k ≡ Y ∷ []
-unfolding found
-found-itself q t Y k h = from-itself (has (q .operator) t) Y h (restOf k (q .rules))
-
-pub found-none : (q : Policy) (t : ℤ) (X : List Rule) (k : ℕ) → k ≤ 0 → has (q .operator) t X ≡ false → found q t X k ≡ []
-unfolding found
-found-none q t X k z h =
+pub found-none : (q : Policy) (t : ℤ) (X : List Rule) (k : ℕ) → k ≤ 0 → found q t X k ≡ []
+unfolding found foundFrom
+found-none q t X k z =
     let e : k ≡ 0 = omega arith in
-    ap (foundFrom (has (q .operator) t) X) (ap (λ (n : ℕ). restOf n (q .rules)) e ∙ no-rest (q .rules)) ∙ from-nothing (has (q .operator) t) X h
+    ap (foundFrom (has (q .operator) t) X) (ap (λ (n : ℕ). restOf n (q .rules)) e ∙ no-rest (q .rules))

@@ -1,6 +1,6 @@
 -- The search underway: what is left to be found is all that is left to be counted and put.
 use Prim.Native.Nat.{ℕ, _+_, _-_, _≤_, _<_}
-use mathlib.Core.Bool.{true, false}
+use mathlib.Core.Bool.{true}
 use mathlib.Core.List.{List, [], _∷_, _++_, map, map-append}
 use mathlib.Core.Path.{_≡_, sym, ap, _∙_}
 use native.Mathlib.Omega.{arith}
@@ -10,11 +10,11 @@ use Rattle.peal.specs.Policies.{Rule, Policy}
 use Rattle.peal.specs.Having.{has}
 use Rattle.peal.specs.Translation.{maskOf}
 use Rattle.peal.specs.declared.Operator.{Operator}
-use Rattle.compiler.specs.Putting.{putRecord, putRecords, lineAt, linesUpTo}
+use Rattle.compiler.specs.Putting.{putRecord, putRecords, lineAt, linesUpTo, putSets}
 use Rattle.compiler.specs.Planning.{restOf, nextRule}
 use Rattle.compiler.specs.Searching.{Searching, found}
 use Rattle.compiler.proofs.PuttingLaws.{put-lines-append}
-use Rattle.compiler.proofs.SearchingLaws.{left-out, found-further, found-itself}
+use Rattle.compiler.proofs.SearchingLaws.{left-out, tried, found-further, tried-itself}
 
 -- with `left` rules still to come: what is found from here on leads to this number
 pub record Underway (o : Operator) (plan : List ℤ) (count : ℕ) (value : ℤ) (q : Policy) (t : ℤ) (X : List Rule) (number n left : ℕ) : Type 0 where
@@ -27,33 +27,29 @@ module _ {o : Operator} {plan : List ℤ} {count : ℕ} {value : ℤ} {q : Polic
   pub ended : found q t X left ≡ [] → n ≡ number
   ended e = omega (arith, ap (λ (F : List (List Rule)). length F) e, u .numbers)
 
-  module _ (lacks : has (q .operator) t X ≡ false) (some-left : 0 < left) (reach : has (q .operator) t (X ++ restOf left (q .rules)) ≡ true) where
+  module _ (some-left : 0 < left) (reach : has (q .operator) t (X ++ restOf left (q .rules)) ≡ true) where
     abbrev Y : List Rule
     Y = X ++ (nextRule q left ∷ [])
 
-    pub further : found q t X left ≡ found q t Y (left - 1) ++ found q t X (left - 1)
-    further = found-further some-left (u .here) lacks reach
+    pub further : found q t X left ≡ tried q t Y (left - 1) ++ found q t X (left - 1)
+    further = found-further some-left (u .here) reach
 
-    counted : length (found q t X left) ≡ length (found q t Y (left - 1)) + length (found q t X (left - 1))
-    counted = ap (λ (F : List (List Rule)). length F) further ∙ length-append (found q t Y (left - 1)) (found q t X (left - 1))
+    counted : length (found q t X left) ≡ length (tried q t Y (left - 1)) + length (found q t X (left - 1))
+    counted = ap (λ (F : List (List Rule)). length F) further ∙ length-append (tried q t Y (left - 1)) (found q t X (left - 1))
 
     -- the sets found with the rule have numbers up to the last
-    pub room : n + length (found q t Y (left - 1)) ≤ number
+    pub room : n + length (tried q t Y (left - 1)) ≤ number
     room = omega (arith, u .numbers, counted)
 
     -- they are behind, and the rule is left out
-    pub passed : {m : ℕ} → m ≡ n + length (found q t Y (left - 1)) → Underway o plan count value q t X number m (left - 1)
+    pub passed : {m : ℕ} → m ≡ n + length (tried q t Y (left - 1)) → Underway o plan count value q t X number m (left - 1)
     passed e = record { here = left-out some-left (u .here); numbers = omega (arith, e, u .numbers, counted) }
 
--- the rules taken have the property: they are the one set found
-pub one-more : (q : Policy) (t : ℤ) (Y : List Rule) (k : ℕ) → has (q .operator) t Y ≡ true → (n : ℕ) → n + 1 ≡ n + length (found q t Y k)
-one-more q t Y k h n = ap (λ (F : List (List Rule)). n + length F) (sym (found-itself q t Y k h))
+-- the rules tried have the property: they are the one set found
+pub one-more : (q : Policy) (t : ℤ) (Y : List Rule) (k : ℕ) → has (q .operator) t Y ≡ true → (n : ℕ) → n + 1 ≡ n + length (tried q t Y k)
+one-more q t Y k h n = ap (λ (F : List (List Rule)). n + length F) (sym (tried-itself q t Y k h))
 
 -- ---- the words
-
--- the words with the sets as lines from record n on
-unfoldable pub putSets : ℕ → List ℕ → ℕ → List (List Rule) → List ℕ
-putSets last words n sets = putRecords words n (linesUpTo last n (map maskOf sets))
 
 -- sets behind sets
 put-sets : (last : ℕ) (words : List ℕ) (n : ℕ) (F G : List (List Rule)) → putSets last words n (F ++ G) ≡ putSets last (putSets last words n F) (n + length F) G

@@ -1,10 +1,12 @@
 -- Records put into lent words one by one.
 use Prim.Native.Nat.{ℕ, _+_, _-_, _*_}
 use mathlib.Core.Bool.{cond}
-use mathlib.Core.List.{List, [], _∷_}
+use mathlib.Core.List.{List, [], _∷_, map}
 use lib.Dec.{eqb, leb}
 use lib.ListN.{length, set}
 use Rattle.layout.specs.Records.{Record, lineKind}
+use Rattle.peal.specs.Policies.{Rule}
+use Rattle.peal.specs.Translation.{maskOf}
 
 -- record r written as record n, which counts from 1, where there is room for it
 unfoldable pub putRecord : List ℕ → ℕ → Record → List ℕ
@@ -26,3 +28,7 @@ lineAt last n mask = record { kind = lineKind; mask = mask; lines = 0; next = co
 unfoldable pub linesUpTo : ℕ → ℕ → List ℕ → List Record
 linesUpTo last n [] = []
 linesUpTo last n (m ∷ ms) = lineAt last n m ∷ linesUpTo last (n + 1) ms
+
+-- sets of rules written as lines from record n on
+unfoldable pub putSets : (last : ℕ) → List ℕ → ℕ → List (List Rule) → List ℕ
+putSets last w n sets = putRecords w n (linesUpTo last n (map maskOf sets))

@@ -25,7 +25,7 @@ fn clamped(t: i32) -> i64
     t as i64
 }
 
-// The limit of the empty set.
+// The limit for no rule, from which the others are made: the search tries no set without a rule.
 fn first_limit(o: peal::Operator, t: i32) -> i64
     ensures { λ r. ⌜ r ≡ limitOf o t 0 ⌝ }
 {

@@ -1,26 +1,18 @@
-// The search for a policy's minimal sets, by recursion on a falling rank (document 000, figure 5). Module `planning` tells
-// the cells of a plan.
+// The search for a policy's minimal sets, by recursion on a falling rank (document 000, figure 5, but for its test
+// of the empty set). Module `planning` tells the cells of a plan.
 // For this crate only: no other can name these functions, and each call is proved to meet its condition.
 use crate::planning::planned;
 use crate::planning::start;
 use crate::writing::put_line;
-ghost use mathlib.Core.Bool.{false};
-ghost use mathlib.Core.List.{List, _++_, map};
 ghost use mathlib.Core.Path.{_≡_};
 ghost use Prim.Native.Nat.{_+_, _^_, _≤_, _<_};
 ghost use lib.ListN.{length};
 ghost use lib.Signed.{mag};
-ghost use lib.IntN.{ℤ};
-ghost use Rattle.peal.specs.Policies.{Rule, Policy as PealPolicy};
-ghost use Rattle.peal.specs.Having.{has};
-ghost use Rattle.peal.specs.Lines.{lines};
-ghost use Rattle.peal.specs.Translation.{maskOf};
-ghost use Rattle.book.specs.Ranges.{PolicyInRange, PolicyByValue};
-ghost use Rattle.book.specs.Cells.{storedPolicy};
-ghost use Rattle.compiler.specs.Putting.{putRecords, linesUpTo};
+ghost use Rattle.book.specs.Ranges.{PolicyByValue};
+ghost use Rattle.compiler.specs.Putting.{putSets};
 ghost use Rattle.compiler.specs.Worth.{reachedOf};
-ghost use Rattle.compiler.specs.Planning.{ThresholdFits, restOf};
-ghost use Rattle.compiler.specs.Searching.{Searching, Masked, CanSearch, CanCount, CanPut, found};
+ghost use Rattle.compiler.specs.Planning.{ThresholdFits};
+ghost use Rattle.compiler.specs.Searching.{CanSearch, CanPut, CanReach, HasReached, FoundCount, FoundEnd, FoundPut, OfLines};
 
 // A value is on the side of the limit that counts.
 fn is_reached(o: peal::Operator, limit: i64, value: i64) -> bool
@@ -38,7 +30,7 @@ fn is_reached(o: peal::Operator, limit: i64, value: i64) -> bool
 // The `count` rules taken, worth `value`, and all `left` rules still to come have the property together.
 fn can_reach(o: peal::Operator, plan: &[i64; 68], count: usize, value: i64, left: usize) -> bool
     requires { ⌜ CanSearch o (now plan) count value left ⌝ }
-    ensures { λ r. ⌜ ((q : PealPolicy) (t : ℤ) (X : List Rule) → Searching o (now (plan .entry)) count value left q t X → r ≡ has (q .operator) t (X ++ restOf left (q .rules))) ⌝ }
+    ensures { λ r. ⌜ CanReach o (now (plan .entry)) count value left r ⌝ }
 {
     let all = count + left;
     let limit = plan[all * 4];
@@ -49,14 +41,13 @@ fn can_reach(o: peal::Operator, plan: &[i64; 68], count: usize, value: i64, left
 // The rules taken have the property.
 fn has_reached(o: peal::Operator, plan: &[i64; 68], count: usize, value: i64) -> bool
     requires { ⌜ CanSearch o (now plan) count value 0 ⌝ }
-    ensures { λ r. ⌜ ((q : PealPolicy) (t : ℤ) (X : List Rule) → Searching o (now (plan .entry)) count value 0 q t X → r ≡ has (q .operator) t X) ⌝ }
+    ensures { λ r. ⌜ HasReached o (now (plan .entry)) count value r ⌝ }
 {
     is_reached(o, plan[count * 4], value)
 }
 
-// The sets found from the rules taken, whose signals are the mask, and the `rank` rules of lowest rank, as lines from
-// record `at` on; record `last` is the policy's last line. The rules taken do not have the property. Returns the number
-// of the record after them.
+// The sets found beyond the rules taken, whose signals are the mask, with the `rank` rules of lowest rank, as lines from
+// record `at` on; record `last` is the policy's last line. Returns the number of the record after them.
 fn search(
     o: peal::Operator,
     plan: &[i64; 68],
@@ -69,8 +60,9 @@ fn search(
     last: usize,
 ) -> usize
     requires { ⌜ (0 < at) × CanPut o (now plan) mask count value rank at ⌝ }
-    ensures { λ r. ⌜ ((q : PealPolicy) (t : ℤ) (X : List Rule) → Masked o (now (plan .entry)) mask count value rank q t X → has (q .operator) t X ≡ false → r ≡ at + length (found q t X rank)) ⌝ }
-    ensures { λ r. ⌜ ((q : PealPolicy) (t : ℤ) (X : List Rule) → Masked o (now (plan .entry)) mask count value rank q t X → has (q .operator) t X ≡ false → now (words .exit) ≡ putRecords (now (words .entry)) at (linesUpTo last at (map maskOf (found q t X rank)))) ⌝ }
+    ensures { λ r. ⌜ FoundEnd o (now (plan .entry)) mask count value rank at r ⌝ }
+    ensures { λ r. ⌜ FoundPut o (now (plan .entry)) mask count value rank at last (now (words .entry))
+        (now (words .exit)) ⌝ }
 {
     let mut next = at;
     let mut left = rank;
@@ -96,25 +88,21 @@ fn search(
 // the record after them.
 pub fn put_lines(p: book::Policy, t: i32, words: &mut [u32], at: usize, last: usize) -> usize
     requires { ⌜ (0 < at) × (at < 2 ^ 31) × PolicyByValue p × ThresholdFits t ⌝ }
-    ensures { λ r. ⌜ ((q : PealPolicy) → p ≡ storedPolicy q → PolicyInRange q → r ≡ at + length (lines (q .operator) t (q .rules))) ⌝ }
-    ensures { λ r. ⌜ ((q : PealPolicy) → p ≡ storedPolicy q → PolicyInRange q → now (words .exit) ≡ putRecords (now (words .entry)) at (linesUpTo last at (map maskOf (lines (q .operator) t (q .rules))))) ⌝ }
+    ensures { λ r. ⌜ OfLines p t (λ sets. r ≡ at + length sets) ⌝ }
+    ensures { λ r. ⌜ OfLines p t (λ sets. now (words .exit) ≡ putSets last (now (words .entry)) at sets) ⌝ }
 {
     let q = ranking::in_rank_order(p);
     let o = q.operator;
     let n = q.count;
     let plan = planned(q, t);
     let value = start(o);
-    if has_reached(o, &plan, 0, value) {
-        put_line(words, at, 0, last);
-        return at + 1;
-    }
     search(o, &plan, 0, 0, value, n, words, at, last)
 }
 
 // How many sets the search finds.
 fn count_found(o: peal::Operator, plan: &[i64; 68], count: usize, value: i64, rank: usize) -> usize
-    requires { ⌜ CanCount o (now plan) count value rank ⌝ }
-    ensures { λ r. ⌜ ((q : PealPolicy) (t : ℤ) (X : List Rule) → Searching o (now (plan .entry)) count value rank q t X → has (q .operator) t X ≡ false → r ≡ length (found q t X rank)) ⌝ }
+    requires { ⌜ CanSearch o (now plan) count value rank ⌝ }
+    ensures { λ r. ⌜ FoundCount o (now (plan .entry)) count value rank r ⌝ }
 {
     let mut sets = 0;
     let mut left = rank;
@@ -136,15 +124,12 @@ fn count_found(o: peal::Operator, plan: &[i64; 68], count: usize, value: i64, ra
 // How many lines a policy has.
 pub fn count_lines(p: book::Policy, t: i32) -> usize
     requires { ⌜ PolicyByValue p × ThresholdFits t ⌝ }
-    ensures { λ r. ⌜ ((q : PealPolicy) → p ≡ storedPolicy q → PolicyInRange q → r ≡ length (lines (q .operator) t (q .rules))) ⌝ }
+    ensures { λ r. ⌜ OfLines p t (λ sets. r ≡ length sets) ⌝ }
 {
     let q = ranking::in_rank_order(p);
     let o = q.operator;
     let n = q.count;
     let plan = planned(q, t);
     let value = start(o);
-    if has_reached(o, &plan, 0, value) {
-        return 1;
-    }
     count_found(o, &plan, 0, value, n)
 }

@@ -61,6 +61,19 @@ line-next : changed 15 5 ≡ refused 10 4
 unfolding layoutComputes
 line-next = refl
 
+-- a line that demands nothing, lines that hold another and a line repeated are sound
+line-of-nothing : changed 9 0 ≡ result tt
+unfolding layoutComputes
+line-of-nothing = refl
+
+line-around-another : changed 9 7 ≡ result tt
+unfolding layoutComputes
+line-around-another = refl
+
+line-repeated : changed 9 5 ≡ result tt
+unfolding layoutComputes
+line-repeated = refl
+
 -- a join's mask, lines and next
 join-mask : changed 25 1 ≡ refused 10 7
 unfolding layoutComputes

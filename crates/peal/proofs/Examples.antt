@@ -76,22 +76,33 @@ at-min : masks Min (pos 20) (0 at pos 20 ∷ 1 at pos 21 ∷ []) ≡ 1 ∷ []
 unfolding pealComputes
 at-min = refl
 
--- the empty set counts: sum 0 exceeds −1 and not 0; product one unit is at most 100 hundredths and not at most 99
-empty-sum : masks Sum (negsuc 0) (0 at pos 20 ∷ []) ≡ 0 ∷ []
-unfolding pealComputes
-empty-sum = refl
+-- ---- sought among non-empty sets only, also where the sum of no rule, 0, exceeds T, or its product, one unit, is at most T
 
-not-empty-sum : masks Sum (pos 0) (0 at pos 20 ∷ []) ≡ 1 ∷ []
+-- each single rule is a line then, one of score 0 in sum and of 100 in mul too
+below-zero-sum : masks Sum (negsuc 0) (0 at pos 20 ∷ 1 at pos 0 ∷ []) ≡ 1 ∷ 2 ∷ []
 unfolding pealComputes
-not-empty-sum = refl
+below-zero-sum = refl
 
-empty-mul : masks Mul (pos 100) (0 at pos 20 ∷ []) ≡ 0 ∷ []
+at-zero-sum : masks Sum (pos 0) (0 at pos 20 ∷ 1 at pos 0 ∷ []) ≡ 1 ∷ []
 unfolding pealComputes
-empty-mul = refl
+at-zero-sum = refl
 
-not-empty-mul : masks Mul (pos 99) (0 at pos 20 ∷ []) ≡ 1 ∷ []
+at-unit-mul : masks Mul (pos 100) (0 at pos 50 ∷ 1 at pos 100 ∷ []) ≡ 1 ∷ 2 ∷ []
 unfolding pealComputes
-not-empty-mul = refl
+at-unit-mul = refl
+
+below-unit-mul : masks Mul (pos 99) (0 at pos 50 ∷ 1 at pos 100 ∷ []) ≡ 1 ∷ []
+unfolding pealComputes
+below-unit-mul = refl
+
+-- without rules there is no line
+no-rule-sum : masks Sum (negsuc 0) [] ≡ []
+unfolding pealComputes
+no-rule-sum = refl
+
+no-rule-mul : masks Mul (pos 100) [] ≡ []
+unfolding pealComputes
+no-rule-mul = refl
 
 -- ---- no line that holds a smaller line
 

@@ -1,24 +1,24 @@
--- Inside a set that has a property lies a minimal one; so the minimal sets decide a property that adding rules keeps, and the lines decide theirs.
+-- Inside a non-empty set that has a property lies a minimal one; so the minimal sets decide a property that adding rules keeps, and the lines decide theirs.
 use Prim.Native.Nat.{ℕ, zero, suc, _<_}
-use mathlib.Core.Bool.{Bool, true, false}
+use mathlib.Core.Bool.{Bool, true, false, _&&_, and-assoc}
 use mathlib.Core.List.{List, [], Sublistᴰ·refl, Sublistᴰ·trans}
-use mathlib.Core.Path.{_≡_, refl, ap, _∙_}
+use mathlib.Core.Path.{_≡_, refl, sym, ap, ap₂, _∙_}
 use native.Mathlib.Omega.{arith}
 use lib.IntN.{ℤ}
 use lib.ListN.{length}
-use Rattle.arith.specs.Lists.{any}
-use Rattle.arith.proofs.AnyEvery.{any-in, any-out, any-keep}
-use Rattle.arith.proofs.Reordering.{keep-reordered}
+use Rattle.arith.specs.Lists.{every, any, keep, nonEmpty, subsets}
+use Rattle.arith.proofs.AnyEvery.{any-in, any-out, any-keep, any-same}
+use Rattle.arith.proofs.NonEmpty.{some-around}
+use Rattle.arith.proofs.Reordering.{keep-reordered, some-reordered}
 use Rattle.arith.proofs.Sublists.{keep-inside}
-use Rattle.arith.proofs.Subsets.{subsets-in, subsets-out}
 use Rattle.arith.proofs.SubsetTests.{subsets-kept}
-use Rattle.arith.proofs.Tests.{clash, same-answer, not-yes}
+use Rattle.arith.proofs.Tests.{clash, same-answer, not-yes, and-left, and-right}
 use Rattle.signals.specs.Sets.{present}
 use Rattle.peal.specs.Policies.{Rule}
 use Rattle.peal.specs.Score.{presentRules}
 use Rattle.peal.specs.Ranking.{ranked}
 use Rattle.peal.specs.Lines.{setsInside, smallerSets, minimal, minimalSets}
-use Rattle.peal.specs.SetsOfRules.{SetInside}
+use Rattle.peal.specs.SetsOfRules.{SetInside, IsMinimal}
 use Rattle.peal.specs.Having.{has}
 use Rattle.peal.specs.Presence.{allPresent}
 use Rattle.peal.specs.SearchFindsLines.{RulesFit}
@@ -28,7 +28,7 @@ use Rattle.peal.specs.LinesDecide.{LinesDecide}
 use Rattle.peal.specs.declared.Operator.{Operator}
 use Rattle.peal.proofs.HavingLaws.{has-reordered}
 use Rattle.peal.proofs.KeptLaws.{has-kept}
-use Rattle.peal.proofs.MinimalSets.{smaller-in, smaller-out, minimal-out, minimal-in}
+use Rattle.peal.proofs.MinimalSets.{inside-in, inside-out, smaller-in, smaller-out, minimal-out, minimal-in}
 use Rattle.peal.proofs.RankLaws.{ranked-reordered}
 use Rattle.peal.proofs.SearchLaws.{grown}
 use Rattle.peal.proofs.SingleLaws.{lines-minimal}
@@ -36,39 +36,57 @@ use Rattle.peal.proofs.SingleLaws.{lines-minimal}
 module _ (property : List Rule → Bool) where
   -- a minimal set lies inside X
   abbrev MinimalInside : List Rule → Type 0
-  MinimalInside X = (Y : List Rule) × SetInside Y X × (minimal property Y ≡ true)
+  MinimalInside X = (Y : List Rule) × SetInside Y X × IsMinimal property Y
 
   -- n bounds the size of X
-  minimal-inside : (n : ℕ) (X : List Rule) → length X < n → property X ≡ true → MinimalInside X
-  minimal-inside zero X l h = absurd (omega arith)
-  minimal-inside (suc n) X l h = go (any property (smallerSets X)) refl (λ Y k y. minimal-inside n Y (omega arith) y)
+  minimal-inside : (n : ℕ) (X : List Rule) → length X < n → nonEmpty X ≡ true → property X ≡ true → MinimalInside X
+  minimal-inside zero X l some h = absurd (omega arith)
+  minimal-inside (suc n) X l some h = go (any property (smallerSets X)) refl (λ Y k. minimal-inside n Y (omega arith))
     where
-      go : (t : Bool) → any property (smallerSets X) ≡ t → ((Y : List Rule) → length Y < length X → property Y ≡ true → MinimalInside Y) → MinimalInside X
+      go : (t : Bool) → any property (smallerSets X) ≡ t → ((Y : List Rule) → length Y < length X → nonEmpty Y ≡ true → property Y ≡ true → MinimalInside Y)
+          → MinimalInside X
       go true e deeper =
           let (Y, m, y) = any-out property (smallerSets X) e in
-          let (s, shorter) = smaller-out X Y m in
-          let (Z, t, k) = deeper Y shorter y in
-          (Z, Sublistᴰ·trans {l₁ = Z} {l₂ = Y} t s, k)
-      go false e deeper =
-          (X, Sublistᴰ·refl X, minimal-in property X (record { holds = h; noSmaller = λ Y s k. not-yes (property Y) (λ y. clash (any-in property (smaller-in X Y s k) y) e) }))
+          let (s, k, shorter) = smaller-out X Y m in
+          let (Z, t, least) = deeper Y shorter k y in
+          (Z, Sublistᴰ·trans {l₁ = Z} {l₂ = Y} t s, least)
+      go false e deeper = (
+        X,
+        Sublistᴰ·refl X,
+        record { some = some; holds = h; noSmaller = λ Y s k l. not-yes (property Y) (λ y. clash (any-in property (smaller-in X Y s k l) y) e) },
+      )
 
-  -- some set inside X is minimal exactly if X has the property
-  some-minimal : (X : List Rule) → AddingKeeps property X → any (minimal property) (setsInside X) ≡ property X
-  unfolding setsInside
-  some-minimal X keeps = same-answer (any (minimal property) (setsInside X)) (property X) to from
+  -- some set inside X is minimal exactly if X is not empty and has the property
+  some-minimal : (X : List Rule) → AddingKeeps property X → any (minimal property) (setsInside X) ≡ (nonEmpty X && property X)
+  some-minimal X keeps = same-answer (any (minimal property) (setsInside X)) (nonEmpty X && property X) to from
     where
-      to : any (minimal property) (setsInside X) ≡ true → property X ≡ true
-      to h = let (Y, m, k) = any-out (minimal property) (setsInside X) h in keeps Y (subsets-out X m) (minimal-out property Y k .holds)
+      to : any (minimal property) (setsInside X) ≡ true → (nonEmpty X && property X) ≡ true
+      to h =
+          let (Y, m, k) = any-out (minimal property) (setsInside X) h in
+          let (s, some) = inside-out X m in
+          rw (some-around s some) (keeps Y s (minimal-out property Y some k .holds))
 
-      from : property X ≡ true → any (minimal property) (setsInside X) ≡ true
-      from h = let (Y, s, k) = minimal-inside (suc (length X)) X (omega arith) h in any-in (minimal property) (subsets-in s) k
+      from : (nonEmpty X && property X) ≡ true → any (minimal property) (setsInside X) ≡ true
+      from h =
+          let (Y, s, least) = minimal-inside (suc (length X)) X (omega arith) (and-left (nonEmpty X) (property X) h) (and-right (nonEmpty X) (property X) h) in
+          any-in (minimal property) (inside-in s (least .some)) (minimal-in property Y least)
+
+  -- some minimal set of the rules has rules of one kind alone: some set of the rules of that kind is minimal
+  minimal-kept : (kind : Rule → Bool) (rules : List Rule)
+      → any (every kind) (minimalSets property rules) ≡ any (minimal property) (setsInside (keep kind rules))
+  unfolding minimalSets setsInside
+  minimal-kept kind rules =
+      any-keep (every kind) (minimal property) (setsInside rules)
+      ∙ any-keep (λ Y. minimal property Y && every kind Y) nonEmpty (subsets rules)
+      ∙ any-same (λ Y. nonEmpty Y && (minimal property Y && every kind Y)) (λ Y. (nonEmpty Y && minimal property Y) && every kind Y) (subsets rules)
+      (λ Y m. sym (and-assoc (nonEmpty Y) (minimal property Y) (every kind Y)))
+      ∙ subsets-kept kind (λ Y. nonEmpty Y && minimal property Y) rules
+      ∙ sym (any-keep (minimal property) nonEmpty (subsets (keep kind rules)))
 
 pub minimal-sets-decide : MinimalSetsDecide
-unfolding minimalSets setsInside presentRules allPresent
+unfolding presentRules allPresent
 minimal-sets-decide property rules set keeps =
-    any-keep (allPresent set) (minimal property) (setsInside rules)
-    ∙ subsets-kept (λ r. present set (r .signal)) (minimal property) rules
-    ∙ some-minimal property (presentRules set rules) keeps
+    minimal-kept property (λ r. present set (r .signal)) rules ∙ some-minimal property (presentRules set rules) keeps
 
 -- ---- the lines
 
@@ -76,11 +94,13 @@ pub order-does-not-matter : OrderDoesNotMatter
 order-does-not-matter o t X Y d = has-reordered o t d
 
 module _ (o : Operator) (t : ℤ) (rules : List Rule) (set : ℕ) where
-  -- the present rules in rank order have the property exactly if those in book order have it
-  ranked-has : has o t (presentRules set (ranked o rules)) ≡ has o t (presentRules set rules)
+  -- there are present rules and they have the property, in rank order exactly if in book order
+  ranked-has : (nonEmpty (presentRules set (ranked o rules)) && has o t (presentRules set (ranked o rules)))
+      ≡ (nonEmpty (presentRules set rules) && has o t (presentRules set rules))
   unfolding presentRules
   ranked-has =
-      order-does-not-matter o t (presentRules set (ranked o rules)) (presentRules set rules) (keep-reordered (λ r. present set (r .signal)) (ranked-reordered o rules))
+      let d = keep-reordered (λ r. present set (r .signal)) (ranked-reordered o rules) in
+      ap₂ (λ (a b : Bool). a && b) (some-reordered d) (order-does-not-matter o t (presentRules set (ranked o rules)) (presentRules set rules) d)
 
   adding-keeps : RulesFit o rules → AddingKeeps (has o t) (presentRules set (ranked o rules))
   unfolding presentRules

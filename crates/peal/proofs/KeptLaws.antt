@@ -18,19 +18,24 @@ use Rattle.peal.proofs.OrderLaws.{order-inside}
 use Rattle.peal.proofs.RankLaws.{ranked-reordered, NotBelow, ranked-order}
 use Rattle.peal.proofs.HavingLaws.{has-reordered, has-added, has-exchanged}
 
-fits-reordered : {op : Operator} {X Y : List Rule} → List·Permᴰ X Y → RulesFit op X → RulesFit op Y
+pub fits-reordered : {op : Operator} {X Y : List Rule} → List·Permᴰ X Y → RulesFit op X → RulesFit op Y
 fits-reordered {op} {X} {Y} d fit =
     record {
       scores = each-reordered (λ (r : Rule). scoreFits op (r .score) ≡ true) d (fit .scores);
       room = λ e. omega (arith, fit .room e, length-reordered d);
     }
 
-fits-inside : {op : Operator} {Y X : List Rule} → SetInside Y X → RulesFit op X → RulesFit op Y
+pub fits-inside : {op : Operator} {Y X : List Rule} → SetInside Y X → RulesFit op X → RulesFit op Y
 fits-inside {op} s fit =
     record {
       scores = each-inside (λ (r : Rule). scoreFits op (r .score) ≡ true) s (fit .scores);
       room = λ e. omega (arith, fit .room e, inside-length s);
     }
+
+-- where the empty set has the property, every set has it
+pub has-all : (op : Operator) (t : ℤ) (X : List Rule) → RulesFit op X → has op t [] ≡ true → has op t X ≡ true
+has-all op t [] fit h = h
+has-all op t (r ∷ X) fit h = has-added op t r X fit (has-all op t X (fits-inside (Sublistᴰ·cons (Sublistᴰ·refl X)) fit) h)
 
 pub has-kept : (op : Operator) (t : ℤ) (rules : List Rule) → RulesFit op rules → Kept (has op t) (ranked op rules)
 has-kept op t rules fit = record { added = added; exchanged = exchanged }

@@ -6,7 +6,7 @@ use native.Mathlib.Omega.{arith}
 use lib.IntN.{ℤ}
 use lib.ListN.{length}
 use lib.Pow.{pow-mono}
-use Rattle.arith.specs.Lists.{below, subsets, Distinct}
+use Rattle.arith.specs.Lists.{below, nonEmpty, subsets, Distinct}
 use Rattle.arith.proofs.Keep.{keep-few}
 use Rattle.arith.proofs.Reordering.{length-reordered}
 use Rattle.arith.proofs.Sublists.{keep-inside}
@@ -41,7 +41,7 @@ lines-are-few op t rules = record { ofRules = few; ofSixteen = λ h. omega (arit
     few : length (lines op t rules) ≤ 2 ^ length rules
     few =
         rw (lines-minimal op t rules, ← length-reordered (ranked-reordered op rules))
-        (omega (arith, keep-few (minimal (has op t)) (subsets (ranked op rules)), subsets-count (ranked op rules)))
+        (omega (arith, keep-few (minimal (has op t)) (setsInside (ranked op rules)), keep-few nonEmpty (subsets (ranked op rules)), subsets-count (ranked op rules)))
 
 -- ---- the order of the lines
 
@@ -73,7 +73,7 @@ module _ (op : Operator) (rules : List Rule) where
     unfolding minimalSets setsInside
     lines-fall t =
         rw (lines-minimal op t rules)
-        (order-inside LessSum (keep-inside (minimal (has op t)) (subsets (ranked op rules))) sets-fall)
+        (order-inside LessSum (keep-inside (minimal (has op t)) (setsInside (ranked op rules))) (order-inside LessSum (keep-inside nonEmpty (subsets (ranked op rules))) sets-fall))
 
 pub lines-are-minimal : LinesAreMinimal
 lines-are-minimal op t rules distinct =

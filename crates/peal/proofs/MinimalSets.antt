@@ -1,29 +1,39 @@
--- Minimal sets as they are listed, and as document 01 says it of every smaller set inside.
+-- Minimal sets as they are listed, and as the documents say it of every smaller non-empty set inside.
 use Prim.Native.Nat.{_<_}
 use mathlib.Core.Bool.{Bool, true, not}
-use mathlib.Core.List.{List}
+use mathlib.Core.List.{List, Sublistᴰ·refl, Sublistᴰ·trans}
 use mathlib.Core.Logic.{_↔_}
-use mathlib.Core.Path.{_≡_, ap}
+use mathlib.Core.Path.{_≡_, sym, ap, _∙_}
 use lib.Dec.{ltb}
 use lib.ListN.{length}
 use borrow.Author.Tests.{not-true, ltb-true, lt-ltb}
-use Rattle.arith.specs.Lists.{every}
-use Rattle.arith.proofs.Tests.{and-left, and-right}
+use Rattle.arith.specs.Lists.{every, nonEmpty, subsets}
+use Rattle.arith.proofs.Keep.{keep-same}
+use Rattle.arith.proofs.Tests.{same-answer, and-left, and-right}
 use Rattle.arith.proofs.Members.{each-in, each-out, every-each, each-every, keep-in, keep-out}
 use Rattle.arith.proofs.Subsets.{subsets-in, subsets-out}
 use Rattle.peal.specs.Policies.{Rule}
 use Rattle.peal.specs.Lines.{setsInside, smallerSets, minimal, minimalSets}
 use Rattle.peal.specs.SetsOfRules.{SetInside, IsMinimal, Among}
 
-pub smaller-in : (X Y : List Rule) → SetInside Y X → length Y < length X → Among Y (smallerSets X)
-unfolding smallerSets setsInside
-smaller-in X Y s l = keep-in (λ Y. ltb (length Y) (length X)) (subsets-in s) (lt-ltb (length Y) (length X) l)
+pub inside-in : {Y X : List Rule} → SetInside Y X → nonEmpty Y ≡ true → Among Y (setsInside X)
+unfolding setsInside
+inside-in s some = keep-in nonEmpty (subsets-in s) some
 
-pub smaller-out : (X Y : List Rule) → Among Y (smallerSets X) → SetInside Y X × (length Y < length X)
-unfolding smallerSets setsInside
+pub inside-out : (X : List Rule) {Y : List Rule} → Among Y (setsInside X) → SetInside Y X × (nonEmpty Y ≡ true)
+unfolding setsInside
+inside-out X m = let (k, some) = keep-out nonEmpty (subsets X) m in (subsets-out X k, some)
+
+pub smaller-in : (X Y : List Rule) → SetInside Y X → nonEmpty Y ≡ true → length Y < length X → Among Y (smallerSets X)
+unfolding smallerSets
+smaller-in X Y s some l = keep-in (λ Y. ltb (length Y) (length X)) (inside-in s some) (lt-ltb (length Y) (length X) l)
+
+pub smaller-out : (X Y : List Rule) → Among Y (smallerSets X) → SetInside Y X × (nonEmpty Y ≡ true) × (length Y < length X)
+unfolding smallerSets
 smaller-out X Y m =
-    let k = keep-out (λ Y. ltb (length Y) (length X)) (setsInside X) m in
-    (subsets-out X (k .0), ltb-true (length Y) (length X) (k .1))
+    let (k, shorter) = keep-out (λ Y. ltb (length Y) (length X)) (setsInside X) m in
+    let (s, some) = inside-out X k in
+    (s, some, ltb-true (length Y) (length X) shorter)
 
 module _ (property : List Rule → Bool) where
   abbrev lacks : List Rule → Bool
@@ -32,24 +42,50 @@ module _ (property : List Rule → Bool) where
   abbrev Lacks : List Rule → Type 0
   Lacks Y = lacks Y ≡ true
 
-  pub minimal-out : (X : List Rule) → minimal property X ≡ true → IsMinimal property X
+  pub minimal-out : (X : List Rule) → nonEmpty X ≡ true → minimal property X ≡ true → IsMinimal property X
   unfolding minimal
-  minimal-out X h =
+  minimal-out X some h =
       let none = each-every lacks (smallerSets X) (and-right (property X) (every lacks (smallerSets X)) h) in
       record {
+        some = some;
         holds = and-left (property X) (every lacks (smallerSets X)) h;
-        noSmaller = λ Y s l. not-true (property Y) (each-out Lacks none (smaller-in X Y s l));
+        noSmaller = λ Y s k l. not-true (property Y) (each-out Lacks none (smaller-in X Y s k l));
       }
 
   pub minimal-in : (X : List Rule) → IsMinimal property X → minimal property X ≡ true
   unfolding minimal
   minimal-in X h =
       rw (h .holds) (every-each lacks (smallerSets X) (each-in Lacks (smallerSets X) (λ Y m.
-      let s = smaller-out X Y m in ap not (h .noSmaller Y (s .0) (s .1)))))
+      let (s, some, l) = smaller-out X Y m in ap not (h .noSmaller Y s some l))))
 
   pub minimal-sets : (rules X : List Rule) → Among X (minimalSets property rules) ↔ (SetInside X rules × IsMinimal property X)
-  unfolding minimalSets setsInside
+  unfolding minimalSets
   minimal-sets rules X = (
-    λ m. let k = keep-out (minimal property) (setsInside rules) m in (subsets-out rules (k .0), minimal-out X (k .1)),
-    λ s. keep-in (minimal property) (subsets-in (s .0)) (minimal-in X (s .1)),
+    λ m. let (k, least) = keep-out (minimal property) (setsInside rules) m in let (s, some) = inside-out rules k in (s, minimal-out X some least),
+    λ (s, least). keep-in (minimal property) (inside-in s (least .some)) (minimal-in X least),
   )
+
+-- another property that says the same of each non-empty set inside
+module _ (property other : List Rule → Bool) where
+  abbrev SameInside : List Rule → Type 0
+  SameInside X = (Y : List Rule) → SetInside Y X → nonEmpty Y ≡ true → property Y ≡ other Y
+
+  minimal-then : (X : List Rule) → nonEmpty X ≡ true → SameInside X → minimal property X ≡ true → minimal other X ≡ true
+  minimal-then X some same m =
+      let least = minimal-out property X some m in
+      minimal-in other X
+      (record {
+        some = some;
+        holds = sym (same X (Sublistᴰ·refl X) some) ∙ least .holds;
+        noSmaller = λ Y s k l. sym (same Y s k) ∙ least .noSmaller Y s k l;
+      })
+
+pub minimal-same : (property other : List Rule → Bool) (rules : List Rule) → SameInside property other rules
+    → minimalSets property rules ≡ minimalSets other rules
+unfolding minimalSets
+minimal-same property other rules same =
+    keep-same (minimal property) (minimal other) (setsInside rules) (λ X m.
+    let (s, some) = inside-out rules m in
+    same-answer (minimal property X) (minimal other X)
+    (minimal-then property other X some (λ Y t. same Y (Sublistᴰ·trans t s)))
+    (minimal-then other property X some (λ Y t k. sym (same Y (Sublistᴰ·trans t s) k))))

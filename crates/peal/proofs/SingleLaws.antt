@@ -1,27 +1,34 @@
--- The minimal sets of "some rule passes a test" are the single rules that pass it: so the lines of max and min are minimal sets too.
+-- The minimal sets of "some rule passes a test" are the single rules that pass it: so the lines of max and min are minimal sets too;
+-- and where the empty set has the property, each rule is a line.
 use mathlib.Core.Bool.{Bool, true, false, cond, _&&_, _||_, or-false}
 use mathlib.Core.List.{List, [], _∷_, _++_, map, Memᴰ·map, Memᴰ·of-map, Memᴰ·cast, Permᴰ·symm, Sublistᴰ·cons, Sublistᴰ·cons-cons, Sublistᴰ·refl, Sublistᴰ·nil-sublist}
 use mathlib.Core.Logic.{_↔_, ⊎-elim}
 use mathlib.Core.Path.{_≡_, refl, sym, ap, ap₂, _∙_}
 use native.Mathlib.Omega.{arith}
-use lib.IntN.{ℤ}
+use lib.Dec.{lit<}
+use lib.IntN.{ℤ, pos}
 use lib.Signed.{leZ, ltZ}
-use Rattle.arith.specs.Lists.{any, keep, subsets}
+use Rattle.arith.specs.Lists.{any, keep, nonEmpty, subsets}
 use Rattle.arith.proofs.Tests.{clash, not-yes, or-cases}
-use Rattle.arith.proofs.Keep.{keep-append}
-use Rattle.arith.proofs.Members.{keep-in, keep-out}
-use Rattle.arith.proofs.Subsets.{keep-empty}
+use Rattle.arith.proofs.Keep.{keep-all, keep-append}
+use Rattle.arith.proofs.Members.{each-in, keep-in, keep-out}
+use Rattle.arith.proofs.Order.{leZ-scale}
+use Rattle.arith.proofs.Subsets.{keep-empty, subsets-more}
 use Rattle.arith.proofs.Reordering.{among-reordered}
 use Rattle.peal.specs.Policies.{Rule}
+use Rattle.peal.specs.Score.{scaled, total, product, scaledProduct}
 use Rattle.peal.specs.Ranking.{ranked}
-use Rattle.peal.specs.Lines.{setsInside, smallerSets, minimal, minimalSets, singles, lines}
-use Rattle.peal.specs.SetsOfRules.{Among}
+use Rattle.peal.specs.Lines.{setsInside, smallerSets, minimal, minimalSets, singles, sumAbove, productAtMost, lines}
+use Rattle.peal.specs.SetsOfRules.{SetInside, Among}
 use Rattle.peal.specs.Having.{has}
+use Rattle.peal.specs.SearchFindsLines.{RulesFit}
 use Rattle.peal.specs.LinesAreSingle.{Single, LinesAreSingle}
+use Rattle.peal.specs.EachRuleIsALine.{EachRule, EachRuleIsALine}
 use Rattle.peal.specs.declared.Operator.{Operator}
 use Rattle.peal.specs.declared.Operator.the-variants.{Min, Max, Sum, Mul}
-use Rattle.peal.proofs.MinimalSets.{minimal-out}
+use Rattle.peal.proofs.MinimalSets.{minimal-out, minimal-same}
 use Rattle.peal.proofs.RankLaws.{ranked-reordered}
+use Rattle.peal.proofs.KeptLaws.{fits-reordered, fits-inside, has-all}
 
 module _ (test : Rule → Bool) where
   one-minimal : (r : Rule) → minimal (any test) (r ∷ []) ≡ test r
@@ -35,17 +42,18 @@ module _ (test : Rule → Bool) where
   two-not : (q r : Rule) (X : List Rule) → minimal (any test) (q ∷ r ∷ X) ≡ false
   two-not q r X =
       not-yes (minimal (any test) (q ∷ r ∷ X)) (λ m.
-      let least = minimal-out (any test) (q ∷ r ∷ X) m .noSmaller in
+      let least = minimal-out (any test) (q ∷ r ∷ X) refl m in
       ⊎-elim
-      (λ h. clash (or-false (test q) ∙ h) (least (q ∷ []) (Sublistᴰ·cons-cons refl (Sublistᴰ·nil-sublist (r ∷ X))) (omega arith)))
-      (λ h. clash h (least (r ∷ X) (Sublistᴰ·cons (Sublistᴰ·refl (r ∷ X))) (omega arith)))
-      (or-cases (test q) (any test (r ∷ X)) (minimal-out (any test) (q ∷ r ∷ X) m .holds)))
+      (λ h. clash (or-false (test q) ∙ h) (least .noSmaller (q ∷ []) (Sublistᴰ·cons-cons refl (Sublistᴰ·nil-sublist (r ∷ X))) refl (omega arith)))
+      (λ h. clash h (least .noSmaller (r ∷ X) (Sublistᴰ·cons (Sublistᴰ·refl (r ∷ X))) refl (omega arith)))
+      (or-cases (test q) (any test (r ∷ X)) (least .holds)))
 
   minimal-singles : (rules : List Rule) → minimalSets (any test) rules ≡ singles test rules
   unfolding minimalSets setsInside singles minimal smallerSets
   minimal-singles [] = refl
   minimal-singles (r ∷ rules) =
-      keep-append (minimal (any test)) (map (λ Y. r ∷ Y) (subsets rules)) (subsets rules)
+      ap (keep (minimal (any test))) (subsets-more r rules)
+      ∙ keep-append (minimal (any test)) (map (λ Y. r ∷ Y) (subsets rules)) (keep nonEmpty (subsets rules))
       ∙ ap₂ (λ (l m : List (List Rule)). l ++ m)
       (keep-empty (minimal (any test)) (λ Y. r ∷ Y) rules (two-not r) ∙ ap (λ (t : Bool). cond t ((r ∷ []) ∷ []) []) (one-minimal r))
       (minimal-singles rules)
@@ -81,3 +89,29 @@ pub lines-are-single : LinesAreSingle
 unfolding lines
 lines-are-single t rules X =
     (among-singles (λ r. ltZ t (r .score)) Max rules X, among-singles (λ r. leZ (r .score) t) Min rules X)
+
+-- ---- where the empty set has the property
+
+each-rule : (op : Operator) (t : ℤ) (rules : List Rule) → RulesFit op rules → has op t [] ≡ true → EachRule op t rules
+unfolding singles
+each-rule op t rules fit none =
+    lines-minimal op t rules
+    ∙ minimal-same (has op t) (any (λ r. true)) (ranked op rules) same
+    ∙ minimal-singles (λ r. true) (ranked op rules)
+    ∙ ap (map (λ r. r ∷ [])) (keep-all (λ r. true) (ranked op rules) (each-in (λ (r : Rule). true ≡ true) (ranked op rules) (λ r m. refl)))
+  where
+    some-is-any : (X : List Rule) → nonEmpty X ≡ true → any (λ (r : Rule). true) X ≡ true
+    some-is-any [] h = clash h refl
+    some-is-any (r ∷ X) h = refl
+
+    same : (X : List Rule) → SetInside X (ranked op rules) → nonEmpty X ≡ true → has op t X ≡ any (λ (r : Rule). true) X
+    same X s some =
+        has-all op t X (fits-inside s (fits-reordered (Permᴰ·symm (ranked-reordered op rules)) fit)) none ∙ sym (some-is-any X some)
+
+pub each-rule-is-a-line : EachRuleIsALine
+unfolding has sumAbove total productAtMost scaledProduct product scaled
+each-rule-is-a-line =
+    record {
+      ofSum = λ t rules fit h. each-rule Sum t rules fit h;
+      ofMul = λ t rules fit h. each-rule Mul t rules fit (leZ-scale (pos 100) t 100000000000000 (lit< tt) ∙ h);
+    }

@@ -14,6 +14,7 @@ pub mod SearchFindsLines
 pub mod RankedFalls
 pub mod LinesAreMinimal
 pub mod LinesAreSingle
+pub mod EachRuleIsALine
 pub mod LinesAreFew
 pub mod RecordsAreFew
 pub mod Presence

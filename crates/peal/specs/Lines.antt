@@ -1,27 +1,27 @@
--- The lines of a policy, as sets of its rules (document 01, "From condition to listing").
+-- The lines of a policy, as sets of its rules (document 01, "From condition to listing"; change request 4 for the non-empty sets).
 use mathlib.Core.Bool.{Bool, not, _&&_}
 use mathlib.Core.List.{List, [], _∷_, map}
 use lib.Dec.{ltb}
 use lib.IntN.{ℤ}
 use lib.ListN.{length}
 use lib.Signed.{leZ, ltZ}
-use Rattle.arith.specs.Lists.{every, keep, subsets}
+use Rattle.arith.specs.Lists.{every, keep, nonEmpty, subsets}
 use Rattle.peal.specs.Policies.{Rule}
 use Rattle.peal.specs.Score.{scaled, total, scaledProduct}
 use Rattle.peal.specs.Ranking.{ranked}
 use Rattle.peal.specs.declared.Operator.{Operator}
 use Rattle.peal.specs.declared.Operator.the-variants.{Min, Max, Sum, Mul}
 
--- the sets inside X, among which minimal sets are sought: the empty set counts.
+-- the non-empty sets inside X: minimal sets are sought among these only.
 -- Of rules in falling rank they stand in falling order of the sum of 2 to the rank (proofs/SetOrder.antt).
 unfoldable pub setsInside : List Rule → List (List Rule)
-setsInside X = subsets X
+setsInside X = keep nonEmpty (subsets X)
 
--- the smaller sets inside X
+-- those that are smaller than X
 unfoldable pub smallerSets : List Rule → List (List Rule)
 smallerSets X = keep (λ Y. ltb (length Y) (length X)) (setsInside X)
 
--- X has the property, and no smaller set inside it has
+-- of a non-empty set X: it has the property, and no smaller non-empty set inside it has
 unfoldable pub minimal : (List Rule → Bool) → List Rule → Bool
 minimal property X = property X && every (λ Y. not (property Y)) (smallerSets X)
 
@@ -33,11 +33,11 @@ minimalSets property rules = keep (minimal property) (setsInside rules)
 unfoldable pub singles : (Rule → Bool) → List Rule → List (List Rule)
 singles test rules = map (λ r. r ∷ []) (keep test rules)
 
--- the sum exceeds T (the empty set has sum 0)
+-- the sum exceeds T
 unfoldable pub sumAbove : ℤ → List Rule → Bool
 sumAbove t X = ltZ t (total X)
 
--- the product in units is at most T divided by 100 (the empty set has product one unit)
+-- the product in units is at most T divided by 100
 unfoldable pub productAtMost : ℤ → List Rule → Bool
 productAtMost t X = leZ (scaledProduct X) (scaled t)
 

@@ -4,17 +4,18 @@ use mathlib.Core.Bool.{Bool, true, false}
 use mathlib.Core.List.{List, [], _∷_, List·Memᴰ, Sublistᴰ}
 use mathlib.Core.Path.{_≡_}
 use lib.ListN.{length}
-use Rattle.arith.specs.Lists.{Each}
+use Rattle.arith.specs.Lists.{nonEmpty, Each}
 use Rattle.peal.specs.Policies.{Rule}
 
 -- Y is a set inside X
 abbrev pub SetInside : List Rule → List Rule → Type 0
 SetInside Y X = Sublistᴰ Y X
 
--- X has the property, and no smaller set inside it has
+-- X is a non-empty set that has the property, and no smaller non-empty set inside it has
 pub record IsMinimal (property : List Rule → Bool) (X : List Rule) : Type 0 where
+  pub some : nonEmpty X ≡ true
   pub holds : property X ≡ true
-  pub noSmaller : (Y : List Rule) → SetInside Y X → length Y < length X → property Y ≡ false
+  pub noSmaller : (Y : List Rule) → SetInside Y X → nonEmpty Y ≡ true → length Y < length X → property Y ≡ false
 
 module _ {A : Type 0} where
   -- x is a member of the list

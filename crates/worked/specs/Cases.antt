@@ -1,4 +1,4 @@
--- "One book in full", cases a to j of "Corners held fast" in the order of the table, a book with an excluded pair, and case j with its default left out:
+-- "One book in full", cases a to j of "Corners held fast" in the order of the table, and what the change requests add:
 -- each one computed comparison.
 use Prim.Native.String.{String, _++_}
 use mathlib.Core.Path.{_≡_, refl}
@@ -76,8 +76,8 @@ case-g : decides (halves "c 24 >= p0\n") 3 & listing (halves "c 24 >= p0\n")
 unfolding halves allCompute
 case-g = refl
 
--- h: A, `c -1 < p0`: kind 17, one line, mask 0
-case-h : listing (A "c -1 < p0\n") ≡ result (17 ∷ 7 ∷ 2 ∷ 0 ∷ 4 ∷ 0 ∷ 0 ∷ 0 ∷ [])
+-- h, as change request 4 has it: A, `c -1 < p0`: kind 17, lines 1, 4, 2
+case-h : listing (A "c -1 < p0\n") ≡ result (17 ∷ 7 ∷ 2 ∷ 0 ∷ 4 ∷ 1 ∷ 0 ∷ 3 ∷ 4 ∷ 4 ∷ 0 ∷ 4 ∷ 4 ∷ 2 ∷ 0 ∷ 0 ∷ [])
 unfolding A allCompute
 case-h = refl
 
@@ -150,3 +150,25 @@ score-f = refl
 score-i : shows belowZero 0 ≡ result (record { hundredths = negsuc 4; remainder = 0 })
 unfolding belowZero allCompute
 score-i = refl
+
+-- ---- change request 4: lines that demand nothing
+
+-- a mul policy under a threshold of 100: each rule is a line, one that scores 100 too, under either sense
+unfoldable pub atUnit : String → String
+atUnit condition = "p mul 100\nr 0 50\nr 1 100\n" ++ condition
+
+mul-at-unit : listing (atUnit "c 100 >= p0\n") & listing (atUnit "c 100 < p0\n")
+    ≡ result (17 ∷ 3 ∷ 2 ∷ 0 ∷ 4 ∷ 1 ∷ 0 ∷ 3 ∷ 4 ∷ 2 ∷ 0 ∷ 0 ∷ []) & result (18 ∷ 3 ∷ 2 ∷ 0 ∷ 4 ∷ 1 ∷ 0 ∷ 3 ∷ 4 ∷ 2 ∷ 0 ∷ 0 ∷ [])
+unfolding atUnit allCompute
+mul-at-unit = refl
+
+-- a sum policy under a threshold below 0: a rule that scores 0 is a line, under either sense
+zero-is-a-line : listing "p sum 0\nr 0 0\nc -1 < p0\n" & listing "p sum 0\nr 0 0\nc -1 >= p0\n"
+    ≡ result (17 ∷ 1 ∷ 2 ∷ 0 ∷ 4 ∷ 1 ∷ 0 ∷ 0 ∷ []) & result (18 ∷ 1 ∷ 2 ∷ 0 ∷ 4 ∷ 1 ∷ 0 ∷ 0 ∷ [])
+unfolding allCompute
+zero-is-a-line = refl
+
+-- without rules neither has a line
+no-rules : listing "p sum 0\nc -1 < p0\n" & listing "p mul 100\nc 100 >= p0\n" ≡ result (17 ∷ 0 ∷ 0 ∷ 0 ∷ []) & result (17 ∷ 0 ∷ 0 ∷ 0 ∷ [])
+unfolding allCompute
+no-rules = refl

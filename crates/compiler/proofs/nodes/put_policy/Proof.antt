@@ -1,6 +1,6 @@
 -- `compiler::nodes::put_policy`: the policy's record, and its lines behind it.
 use Prim.Native.Nat.{ℕ, _+_, _≤_}
-use mathlib.Core.List.{List, map}
+use mathlib.Core.List.{List}
 use mathlib.Core.Path.{_≡_, sym, ap, ap₂, subst, _∙_}
 use native.Mathlib.Omega.{arith}
 use borrow.Author.Needs.{needs}
@@ -12,10 +12,10 @@ use mir.ValLaws.{toZ-ofZ}
 use Rattle.layout.specs.Records.{policyKind}
 use Rattle.peal.specs.Lines.{lines}
 use Rattle.peal.specs.Score.{scaled, meets}
-use Rattle.peal.specs.Translation.{maskOf, quiet, turned}
+use Rattle.peal.specs.Translation.{quiet, turned}
 use Rattle.compiler.specs.Nodes.{LinesKept}
 use Rattle.compiler.specs.Planning.{ThresholdFits}
-use Rattle.compiler.specs.Putting.{putRecords, linesUpTo}
+use Rattle.compiler.specs.Putting.{putSets}
 use Rattle.compiler.proofs.MentionLaws.{policy-kept, kept-few, put-mention}
 use Rattle.compiler.proofs.nodes.put_policy.Statement.{statement}
 use Rattle.compiler.proofs.nodes.put_policy.Tie as tie
@@ -100,6 +100,7 @@ same-length : tie.Need-same-length
 same-length c = search needs
 
 returns : tie.Need-returns
+unfolding putSets
 returns c =
     let l = c .before .before in
     let p = l .before .before in
@@ -110,7 +111,7 @@ returns c =
     let a = s .args in
     λ h.
     l .put-lines .ensures .1 (h .policy) (p .policy-at .ensures (h .policy) (h .held)) (h .range)
-    ∙ ap (λ (w : List ℕ). putRecords w (a .at + 1) (linesUpTo (a .at + a .count) (a .at + 1) (map maskOf (lines (h .policy .operator) (toZ w32 (ofZ w32 (a .t))) (h .policy .rules))))) (r .put-record .ensures)
+    ∙ ap (λ (w : List ℕ). putSets (a .at + a .count) w (a .at + 1) (lines (h .policy .operator) (toZ w32 (ofZ w32 (a .t))) (h .policy .rules))) (r .put-record .ensures)
     ∙ put-mention h (a .sense) (a .at) (a .more) (now (a .words)) _ (same s) _
     (λ i.
     record {

@@ -2,7 +2,7 @@
 use Prim.Native.Nat.{ℕ, _+_, _-_, _*_, _<_, _≤_}
 use mathlib.Core.Bool.{true, false}
 use mathlib.Core.List.{List, [], _∷_, _++_}
-use mathlib.Core.Path.{_≡_, sym, subst, _∙_}
+use mathlib.Core.Path.{_≡_, sym, ap, subst, _∙_}
 use native.Mathlib.Omega.{arith}
 use borrow.Author.Needs.{needs}
 use borrow.Author.Tests.{not-true, not-false}
@@ -17,8 +17,8 @@ use mir.ValLaws.{toZ-ofZ}
 use Rattle.peal.specs.Policies.{Rule, Policy}
 use Rattle.peal.specs.Having.{has}
 use Rattle.compiler.specs.Planning.{restOf, nextRule}
-use Rattle.compiler.specs.Searching.{Searching, CanCount, found}
-use Rattle.compiler.proofs.SearchingLaws.{taken-few, none-coming, taken-in, next-small, nothing-found, found-none, found-few}
+use Rattle.compiler.specs.Searching.{Searching, CanSearch, found}
+use Rattle.compiler.proofs.SearchingLaws.{taken-few, none-coming, taken-in, next-small, tried, tried-further, nothing-found, found-none, found-few}
 use Rattle.compiler.proofs.UnderwayLaws.{Underway, ended, room, passed, one-more}
 use Rattle.compiler.proofs.searching.count_found.Reads as counted
 use Rattle.compiler.proofs.searching.count_found.Kinds as count-kinds
@@ -45,7 +45,7 @@ calls t = (can-reach.Asked, can-reach.Learnt, combined.Asked, combined.Learnt, h
 abbrev Inv-loop : lts.InvT-loop
 Inv-loop o plan count value rank sets₀ left₀ sets left =
     (left ≤ rank)
-    × ((q : Policy) (t : ℤ) (X : List Rule) → Searching o plan count (toZ w64 value) rank q t X → has (q .operator) t X ≡ false
+    × ((q : Policy) (t : ℤ) (X : List Rule) → Searching o plan count (toZ w64 value) rank q t X
     → Underway o plan count (toZ w64 value) q t X (length (found q t X rank)) sets left)
 
 abbrev μ-loop : lts.MeasureT-loop
@@ -62,8 +62,8 @@ module _ (t : ℕ) (s : lts.Start (calls t) (count-at t) counted.Post Inv-loop �
       subst (λ (v : ℤ). Searching (s .args .o) (now (s .args .plan)) (s .args .count) v (s .args .rank) q T X)
       (sym (toZ-ofZ w64 (s .args .value) (s .fits .value))) h
 
-  abbrev asked : CanCount (s .args .o) (now (s .args .plan)) (s .args .count) value (s .args .rank)
-  asked = let a = s .pre .1 in (a .0, a .1, a .2, as-read (a .3), a .4)
+  abbrev asked : CanSearch (s .args .o) (now (s .args .plan)) (s .args .count) value (s .args .rank)
+  asked = let a = s .pre .1 in (a .0, a .1, a .2, as-read (a .3))
 
 -- before the rule is tried: what is underway, of the sets that are asked for
 module _ (t : ℕ) (c : lts.In-loop (calls t) (count-at t) counted.Post Inv-loop μ-loop) where
@@ -77,22 +77,22 @@ module _ (t : ℕ) (c : lts.In-loop (calls t) (count-at t) counted.Post Inv-loop
   UnderwayHere q T X number = Underway (start .args .o) (now (start .args .plan)) (start .args .count) (value t start) q T X number (c .before .loop .sets) left
 
   underway-here : UnderwayHere (asked t start .0) (asked t start .1) (asked t start .2) (length (found (asked t start .0) (asked t start .1) (asked t start .2) (start .args .rank)))
-  underway-here = c .before .loop .inv .1 (asked t start .0) (asked t start .1) (asked t start .2) (asked t start .3) (asked t start .4)
+  underway-here = c .before .loop .inv .1 (asked t start .0) (asked t start .1) (asked t start .2) (asked t start .3)
 
   few : start .args .count + left ≤ 16
   few = taken-few (underway-here .here)
 
 loop-holds : (t : ℕ) → lts.Need-loop-holds (calls t) (count-at t) counted.Post Inv-loop μ-loop
-loop-holds t c = (omega arith, λ q T X h k. record { here = h; numbers = omega arith })
+loop-holds t c = (omega arith, λ q T X h. record { here = h; numbers = omega arith })
 
 can-reach-requires : (t : ℕ) → lts.Need-can-reach-requires (calls t) (count-at t) counted.Post Inv-loop μ-loop
 can-reach-requires t c κs = let a = asked t (start t c) in (a .0, a .1, a .2, underway-here t c .here)
 
 returns : (t : ℕ) → lts.Need-returns (calls t) (count-at t) counted.Post Inv-loop μ-loop
-returns t c q T X h k =
+returns t c q T X h =
     let l = c .before .before in
-    let u = l .before .loop .inv .1 q T X (as-read t (start t l) h) k in
-    ended u (nothing-found (l .loop-test .taken) (u .here) k (sym (c .before .can-reach .ensures q T X (u .here)) ∙ not-true _ (c .if1 .taken)))
+    let u = l .before .loop .inv .1 q T X (as-read t (start t l) h) in
+    ended u (nothing-found (l .loop-test .taken) (u .here) (sym (c .before .can-reach .ensures q T X (u .here)) ∙ not-true _ (c .if1 .taken)))
 
 -- ---- the value with the rule
 
@@ -148,11 +148,11 @@ module _ (t : ℕ) (c : lts.After-combined (calls t) (count-at t) counted.Post I
     tested = none-coming searched
 
   -- the sets found with the rule are few, of the sets that are asked for
-  room-here : let a = asked t first in turn .before .loop .sets + length (found (a .0) (a .1) (Y (underway-here t turn)) (left t turn - 1)) ≤ 65536
+  room-here : let a = asked t first in turn .before .loop .sets + length (tried (a .0) (a .1) (Y (underway-here t turn)) (left t turn - 1)) ≤ 65536
   room-here =
       let a = asked t first in
       let u = underway-here t turn in
-      omega (arith, room u (a .4) (turn .loop-test .taken) (reach u), found-few (a .3))
+      omega (arith, room u (turn .loop-test .taken) (reach u), found-few (a .3))
 
 sub-left : (t : ℕ) → lts.Need-sub-left (calls t) (count-at t) counted.Post Inv-loop μ-loop
 sub-left t c = omega (arith, turn t c .loop-test .taken)
@@ -169,7 +169,7 @@ has-reached-requires t c κs =
 -- ---- it has the property: it is the one set found
 
 module _ (t : ℕ) (c : lts.Then2 (calls t) (count-at t) counted.Post Inv-loop μ-loop) {q : Policy} {T : ℤ} {X : List Rule} {number : ℕ} (u : UnderwayHere t (turn t (c .before .before)) q T X number) where
-  one-found : let l = turn t (c .before .before) in l .before .loop .sets + 1 ≡ l .before .loop .sets + length (found q T (Y t (c .before .before) u) (left t l - 1))
+  one-found : let l = turn t (c .before .before) in l .before .loop .sets + 1 ≡ l .before .loop .sets + length (tried q T (Y t (c .before .before) u) (left t l - 1))
   one-found =
       let w = c .before .before in
       one-more q T (Y t w u) (left t (turn t w) - 1) (sym (c .before .has-reached .ensures q T _ (tested t w u)) ∙ c .if2 .taken) (turn t w .before .loop .sets)
@@ -185,7 +185,7 @@ loop-again t c =
     let w = c .before .before in
     let l = turn t w in (
       omega (arith, l .before .loop .inv .0),
-      λ q T X h k. let u = l .before .loop .inv .1 q T X h k in passed u k (l .loop-test .taken) (reach t w u) (one-found t c u),
+      λ q T X h. let u = l .before .loop .inv .1 q T X h in passed u (l .loop-test .taken) (reach t w u) (one-found t c u),
     )
 
 -- ---- it has not: the search goes on from it
@@ -205,7 +205,7 @@ count-found-requires t c κs =
     let a = asked t s in
     let u = underway-here t l in (
       omega (arith, l .loop-test .taken, l .before .loop .inv .0, s .pre .0),
-      (a .0, a .1, Y t w u, searched t w u, lacking t c u),
+      (a .0, a .1, Y t w u, searched t w u),
     )
 
 module _ (t : ℕ) (c : lts.After-count-found (calls t) (count-at t) counted.Post Inv-loop μ-loop) where
@@ -216,8 +216,10 @@ module _ (t : ℕ) (c : lts.After-count-found (calls t) (count-at t) counted.Pos
   this = turn t taking
 
   more-found : {q : Policy} {T : ℤ} {X : List Rule} {number : ℕ} (u : UnderwayHere t this q T X number)
-      → this .before .loop .sets + c .count-found .result ≡ this .before .loop .sets + length (found q T (Y t taking u) (left t this - 1))
-  more-found {q} {T} u = omega (arith, c .count-found .ensures q T (Y t taking u) (searched t taking u) (lacking t (c .before) u))
+      → this .before .loop .sets + c .count-found .result ≡ this .before .loop .sets + length (tried q T (Y t taking u) (left t this - 1))
+  more-found {q} {T} u =
+      ap (λ (n : ℕ). this .before .loop .sets + n) (c .count-found .ensures q T (Y t taking u) (searched t taking u))
+      ∙ ap (λ (F : List (List Rule)). this .before .loop .sets + length F) (sym (tried-further q T (Y t taking u) (left t this - 1) (lacking t (c .before) u)))
 
 add-sets-2 : (t : ℕ) → lts.Need-add-sets-2 (calls t) (count-at t) counted.Post Inv-loop μ-loop
 add-sets-2 t c = record { fits = omega (arith, more-found t c (underway-here t (this t c)), room-here t (taking t c)) }
@@ -229,13 +231,13 @@ loop-again-2 : (t : ℕ) → lts.Need-loop-again-2 (calls t) (count-at t) counte
 loop-again-2 t c =
     let l = this t c in (
       omega (arith, l .before .loop .inv .0),
-      λ q T X h k. let u = l .before .loop .inv .1 q T X h k in passed u k (l .loop-test .taken) (reach t (taking t c) u) (more-found t c u),
+      λ q T X h. let u = l .before .loop .inv .1 q T X h in passed u (l .loop-test .taken) (reach t (taking t c) u) (more-found t c u),
     )
 
 returns-2 : (t : ℕ) → lts.Need-returns-2 (calls t) (count-at t) counted.Post Inv-loop μ-loop
-returns-2 t c q T X h k =
+returns-2 t c q T X h =
     let l = c .before in
-    ended (l .loop .inv .1 q T X (as-read t (l .before) h) k) (found-none q T X (l .loop .left) (c .loop-test .left) k)
+    ended (l .loop .inv .1 q T X (as-read t (l .before) h)) (found-none q T X (l .loop .left) (c .loop-test .left))
 
 pub +count-found-spec : {M : Type 1} → statement M
 +count-found-spec =

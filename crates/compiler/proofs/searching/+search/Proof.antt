@@ -1,6 +1,6 @@
 -- `compiler::searching::search`: what is left to be found is all that is left to be put; each call has fewer rules to come.
 use Prim.Native.Nat.{ℕ, _+_, _-_, _*_, _<_, _≤_}
-use mathlib.Core.Bool.{true, false}
+use mathlib.Core.Bool.{true}
 use mathlib.Core.List.{List, [], _∷_, _++_}
 use mathlib.Core.Path.{_≡_, refl, sym, ap, subst, _∙_}
 use native.Mathlib.Omega.{arith}
@@ -17,11 +17,12 @@ use mir.ValLaws.{toZ-ofZ}
 use Rattle.peal.specs.Policies.{Rule, Policy}
 use Rattle.peal.specs.Having.{has}
 use Rattle.peal.specs.Translation.{maskOf}
+use Rattle.compiler.specs.Putting.{putSets}
 use Rattle.compiler.specs.Planning.{restOf, nextRule}
 use Rattle.compiler.specs.Searching.{Searching, Masked, CanPut, found}
 use Rattle.compiler.proofs.PuttingLaws.{put-length, puts-length}
-use Rattle.compiler.proofs.SearchingLaws.{taken-few, none-coming, taken-in, next-mask, next-mask-fits, next-bit-fits, next-small, nothing-found, found-none, found-itself}
-use Rattle.compiler.proofs.UnderwayLaws.{Underway, ended, further, room, passed, one-more, putSets, put-none, put-further, put-one}
+use Rattle.compiler.proofs.SearchingLaws.{taken-few, none-coming, taken-in, next-mask, next-mask-fits, next-bit-fits, next-small, tried, tried-itself, tried-further, nothing-found, found-none}
+use Rattle.compiler.proofs.UnderwayLaws.{Underway, ended, further, room, passed, one-more, put-none, put-further, put-one}
 use Rattle.compiler.proofs.searching.search.Reads as search′
 use Rattle.compiler.proofs.searching.search.Kinds as search-kinds
 use Rattle.compiler.proofs.searching.+search.Lts-search as lts
@@ -59,7 +60,7 @@ calls t = (
 abbrev Inv-loop : lts.InvT-loop
 Inv-loop o plan mask count value rank words₀ at last next₀ left₀ words next left =
     (left ≤ rank) × (at ≤ next) × (length words ≡ length words₀)
-    × ((q : Policy) (t : ℤ) (X : List Rule) → Masked o plan mask count (toZ w64 value) rank q t X → has (q .operator) t X ≡ false
+    × ((q : Policy) (t : ℤ) (X : List Rule) → Masked o plan mask count (toZ w64 value) rank q t X
     → Underway o plan count (toZ w64 value) q t X (at + length (found q t X rank)) next left
     × (putSets last words next (found q t X left) ≡ putSets last words₀ at (found q t X rank)))
 
@@ -78,7 +79,7 @@ module _ (t : ℕ) (s : lts.Start (calls t) (search-at t) search′.Post Inv-loo
       (sym (toZ-ofZ w64 (s .args .value) (s .fits .value))) h
 
   abbrev asked : CanPut (s .args .o) (now (s .args .plan)) (s .args .mask) (s .args .count) value (s .args .rank) (s .args .at)
-  asked = let a = s .pre .1 .1 in (a .0, a .1, a .2, as-read (a .3), a .4, a .5)
+  asked = let a = s .pre .1 .1 in (a .0, a .1, a .2, as-read (a .3), a .4)
 
 -- before the rule is tried: what is underway, of the sets that are asked for
 module _ (t : ℕ) (c : lts.In-loop (calls t) (search-at t) search′.Post Inv-loop μ-loop) where
@@ -93,13 +94,13 @@ module _ (t : ℕ) (c : lts.In-loop (calls t) (search-at t) search′.Post Inv-l
 
   underway-here : UnderwayHere (asked t start .0) (asked t start .1) (asked t start .2)
       (start .args .at + length (found (asked t start .0) (asked t start .1) (asked t start .2) (start .args .rank)))
-  underway-here = c .before .loop .inv .3 (asked t start .0) (asked t start .1) (asked t start .2) (asked t start .3) (asked t start .4) .0
+  underway-here = c .before .loop .inv .3 (asked t start .0) (asked t start .1) (asked t start .2) (asked t start .3) .0
 
   few : start .args .count + left ≤ 16
   few = taken-few (underway-here .here)
 
 loop-holds : (t : ℕ) → lts.Need-loop-holds (calls t) (search-at t) search′.Post Inv-loop μ-loop
-loop-holds t c = (omega arith, omega arith, refl, λ q u X h k. (record { here = h .searching; numbers = refl }, refl))
+loop-holds t c = (omega arith, omega arith, refl, λ q u X h. (record { here = h .searching; numbers = refl }, refl))
 
 can-reach-requires : (t : ℕ) → lts.Need-can-reach-requires (calls t) (search-at t) search′.Post Inv-loop μ-loop
 can-reach-requires t c κs = let a = asked t (start t c) in (a .0, a .1, a .2, underway-here t c .here)
@@ -112,25 +113,24 @@ module _ (t : ℕ) (l : lts.At-loop (calls t) (search-at t) search′.Post Inv-l
   abbrev f : lts.Start (calls t) (search-at t) search′.Post Inv-loop μ-loop
   f = l .before .before
 
-  over : (h : Masked (f .args .o) (now (f .args .plan)) (f .args .mask) (f .args .count) (f .args .value) (f .args .rank) q T X) → has (q .operator) T X ≡ false
+  over : (h : Masked (f .args .o) (now (f .args .plan)) (f .args .mask) (f .args .count) (f .args .value) (f .args .rank) q T X)
       → found q T X (l .loop .left) ≡ []
       → (l .loop .next ≡ f .args .at + length (found q T X (f .args .rank)))
       × (l .loop .words ≡ putSets (f .args .last) (now (f .args .words)) (f .args .at) (found q T X (f .args .rank)))
-  over h k e =
-      let u = l .loop .inv .3 q T X (as-read t f h) k in
+  over h e =
+      let u = l .loop .inv .3 q T X (as-read t f h) in
       (ended (u .0) e, put-none (f .args .last) (l .loop .words) (l .loop .next) e ∙ u .1)
 
 returns : (t : ℕ) → lts.Need-returns (calls t) (search-at t) search′.Post Inv-loop μ-loop
-unfolding putSets
 returns t c =
     let l = c .before .before in
     let s = start t l in
     let none : (q : Policy) (T : ℤ) (X : List Rule) → Masked (s .args .o) (now (s .args .plan)) (s .args .mask) (s .args .count) (s .args .value) (s .args .rank) q T X
-    → has (q .operator) T X ≡ false → found q T X (left t l) ≡ [] =
-    λ q T X h k.
-    let u = l .before .loop .inv .3 q T X (as-read t s h) k .0 in
-    nothing-found (l .loop-test .taken) (u .here) k (sym (c .before .can-reach .ensures q T X (u .here)) ∙ not-true _ (c .if1 .taken)) in
-    (λ q T X h k. over t (l .before) q T X h k (none q T X h k) .0, λ q T X h k. over t (l .before) q T X h k (none q T X h k) .1)
+    → found q T X (left t l) ≡ [] =
+    λ q T X h.
+    let u = l .before .loop .inv .3 q T X (as-read t s h) .0 in
+    nothing-found (l .loop-test .taken) (u .here) (sym (c .before .can-reach .ensures q T X (u .here)) ∙ not-true _ (c .if1 .taken)) in
+    (λ q T X h. over t (l .before) q T X h (none q T X h) .0, λ q T X h. over t (l .before) q T X h (none q T X h) .1)
 
 -- ---- the mask with the rule
 
@@ -246,8 +246,8 @@ put-line-requires t c κs =
       omega (arith, s .pre .1 .0, l .before .loop .inv .1),
       omega (
         arith,
-        a .5,
-        room u (a .4) (l .loop-test .taken) (reach t w u),
+        a .4,
+        room u (l .loop-test .taken) (reach t w u),
         one-more (a .0) (a .1) (Y t w u) (left t l - 1) (has-it t (c .before) u) (l .before .loop .next),
       ),
     )
@@ -268,15 +268,15 @@ loop-again t c =
       omega (arith, l .before .loop .inv .0),
       omega (arith, l .before .loop .inv .1),
       ap length (p .put-line .ensures) ∙ put-length (l .before .loop .words) (l .before .loop .next) _ ∙ l .before .loop .inv .2,
-      λ q T X h k.
-          let i = l .before .loop .inv .3 q T X h k in
+      λ q T X h.
+          let i = l .before .loop .inv .3 q T X h in
           let u = i .0 in
           let yes = has-it t d u in
           let n = one-more q T (Y t w u) (left t l - 1) yes (l .before .loop .next) in (
-            passed u k (l .loop-test .taken) (reach t w u) n,
-            put-further (s .args .last) (l .before .loop .words) (l .before .loop .next) (found q T (Y t w u) (left t l - 1)) (found q T X (left t l - 1)) (further u k (l .loop-test .taken) (reach t w u)) n
+            passed u (l .loop-test .taken) (reach t w u) n,
+            put-further (s .args .last) (l .before .loop .words) (l .before .loop .next) (tried q T (Y t w u) (left t l - 1)) (found q T X (left t l - 1)) (further u (l .loop-test .taken) (reach t w u)) n
                 (p .put-line .ensures
-                ∙ put-one (s .args .last) (l .before .loop .words) (l .before .loop .next) (Y t w u) (found-itself q T (Y t w u) (left t l - 1) yes) (masked t w u (h .mask)))
+                ∙ put-one (s .args .last) (l .before .loop .words) (l .before .loop .next) (Y t w u) (tried-itself q T (Y t w u) (left t l - 1) yes) (masked t w u (h .mask)))
                 ∙ i .1,
           ),
     )
@@ -290,12 +290,14 @@ module _ (t : ℕ) (c : lts.Else2 (calls t) (search-at t) search′.Post Inv-loo
   abbrev taking : lts.After-combined (calls t) (search-at t) search′.Post Inv-loop μ-loop
   taking = c .before .before
 
-  module _ {q : Policy} {T : ℤ} {X : List Rule} {number : ℕ} (u : UnderwayHere t (turn t taking) q T X number) (e : first t taking .args .mask ≡ maskOf X) where
-    lacking : has (q .operator) T (Y t taking u) ≡ false
-    lacking = sym (c .before .has-reached .ensures q T _ (tested t taking u)) ∙ c .if2 .left
+  module _ {q : Policy} {T : ℤ} {X : List Rule} {number : ℕ} (u : UnderwayHere t (turn t taking) q T X number) where
+    tried-here : tried q T (Y t taking u) (left t (turn t taking) - 1) ≡ found q T (Y t taking u) (left t (turn t taking) - 1)
+    tried-here =
+        tried-further q T (Y t taking u) (left t (turn t taking) - 1) (sym (c .before .has-reached .ensures q T _ (tested t taking u)) ∙ c .if2 .left)
 
-    next-masked : Masked (first t taking .args .o) (now (first t taking .args .plan)) (m t taking) (first t taking .args .count + 1) (v t taking) (left t (turn t taking) - 1) q T (Y t taking u)
-    next-masked = record { searching = searched t taking u; mask = masked t taking u e }
+    next-masked : first t taking .args .mask ≡ maskOf X
+        → Masked (first t taking .args .o) (now (first t taking .args .plan)) (m t taking) (first t taking .args .count + 1) (v t taking) (left t (turn t taking) - 1) q T (Y t taking u)
+    next-masked e = record { searching = searched t taking u; mask = masked t taking u e }
 
 search-requires : (t : ℕ) → lts.Need-search-requires (calls t) (search-at t) search′.Post Inv-loop μ-loop
 search-requires t c κs =
@@ -313,8 +315,7 @@ search-requires t c κs =
           a .1,
           Y t w u,
           next-masked t d u (a .3 .mask),
-          lacking t d u (a .3 .mask),
-          omega (arith, a .5, room u (a .4) (l .loop-test .taken) (reach t w u)),
+          omega (arith, a .4, room u (l .loop-test .taken) (reach t w u), ap (λ (F : List (List Rule)). length F) (tried-here t d u)),
         ),
       ),
     )
@@ -331,12 +332,15 @@ module _ (t : ℕ) (c : lts.After-search (calls t) (search-at t) search′.Post 
   this = turn t (taking t without)
 
   module _ {q : Policy} {T : ℤ} {X : List Rule} {number : ℕ} (u : UnderwayHere t this q T X number) (e : start t this .args .mask ≡ maskOf X) where
-    behind : c .search .result ≡ this .before .loop .next + length (found q T (Y t (taking t without) u) (left t this - 1))
-    behind = c .search .ensures .0 q T _ (next-masked t without u e) (lacking t without u e)
+    behind : c .search .result ≡ this .before .loop .next + length (tried q T (Y t (taking t without) u) (left t this - 1))
+    behind =
+        c .search .ensures .0 q T _ (next-masked t without u e)
+        ∙ ap (λ (F : List (List Rule)). this .before .loop .next + length F) (sym (tried-here t without u))
 
-    written : c .search .last .1 .1 .1 .1 .1 .1 .0 ≡ putSets (start t this .args .last) (this .before .loop .words) (this .before .loop .next) (found q T (Y t (taking t without) u) (left t this - 1))
-    unfolding putSets
-    written = c .search .ensures .1 q T _ (next-masked t without u e) (lacking t without u e)
+    written : c .search .last .1 .1 .1 .1 .1 .1 .0 ≡ putSets (start t this .args .last) (this .before .loop .words) (this .before .loop .next) (tried q T (Y t (taking t without) u) (left t this - 1))
+    written =
+        c .search .ensures .1 q T _ (next-masked t without u e)
+        ∙ ap (putSets (start t this .args .last) (this .before .loop .words) (this .before .loop .next)) (sym (tried-here t without u))
 
 loop-again-2 : (t : ℕ) → lts.Need-loop-again-2 (calls t) (search-at t) search′.Post Inv-loop μ-loop
 unfolding putSets
@@ -350,11 +354,11 @@ loop-again-2 t c =
       omega (arith, l .before .loop .inv .0),
       omega (arith, l .before .loop .inv .1, behind t p z (a .3 .mask)),
       ap length (written t p z (a .3 .mask)) ∙ puts-length (l .before .loop .words) (l .before .loop .next) _ ∙ l .before .loop .inv .2,
-      λ q T X h k.
-          let i = l .before .loop .inv .3 q T X h k in
+      λ q T X h.
+          let i = l .before .loop .inv .3 q T X h in
           let u = i .0 in (
-            passed u k (l .loop-test .taken) (reach t w u) (behind t p u (h .mask)),
-            put-further (s .args .last) (l .before .loop .words) (l .before .loop .next) (found q T (Y t w u) (left t l - 1)) (found q T X (left t l - 1)) (further u k (l .loop-test .taken) (reach t w u)) (behind t p u (h .mask)) (written t p u (h .mask)) ∙ i .1,
+            passed u (l .loop-test .taken) (reach t w u) (behind t p u (h .mask)),
+            put-further (s .args .last) (l .before .loop .words) (l .before .loop .next) (tried q T (Y t w u) (left t l - 1)) (found q T X (left t l - 1)) (further u (l .loop-test .taken) (reach t w u)) (behind t p u (h .mask)) (written t p u (h .mask)) ∙ i .1,
           ),
     )
 
@@ -362,11 +366,10 @@ same-length-2 : (t : ℕ) → lts.Need-same-length-2 (calls t) (search-at t) sea
 same-length-2 t c = c .before .loop .inv .2
 
 returns-2 : (t : ℕ) → lts.Need-returns-2 (calls t) (search-at t) search′.Post Inv-loop μ-loop
-unfolding putSets
 returns-2 t c =
     let l = c .before in (
-      λ q T X h k. over t l q T X h k (found-none q T X (l .loop .left) (c .loop-test .left) k) .0,
-      λ q T X h k. over t l q T X h k (found-none q T X (l .loop .left) (c .loop-test .left) k) .1,
+      λ q T X h. over t l q T X h (found-none q T X (l .loop .left) (c .loop-test .left)) .0,
+      λ q T X h. over t l q T X h (found-none q T X (l .loop .left) (c .loop-test .left)) .1,
     )
 
 pub +search-spec : {M : Type 1} → statement M
