@@ -88,6 +88,13 @@ fn compile(table: &Table) {
     compile_row(table, "the sample with 16 exclusions", &(exclusions() + SAMPLE), 0, false);
     compile_row(table, "one max of 16", &(policy("max", 16, |score| score as i64) + "c 2 < p0\n"), 0, false);
     compile_row(table, "one product of 8", &(policy("mul", 8, |score| 50 + score as i64) + "c 10 >= p0\n"), 0, false);
+    compile_row(
+        table,
+        "a sum of 16, each a line",
+        &(policy("sum", 16, |score| score as i64) + "c -1 < p0\n"),
+        0,
+        false,
+    );
     for rules in [8, 12, 16] {
         compile_row(table, &format!("a sum of {rules} equal rules"), &sum_book(rules), 0, false);
     }

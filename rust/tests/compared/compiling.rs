@@ -4,7 +4,7 @@ use crate::inputs::random::{Random, rounds};
 use crate::inputs::{Inside, books, damage};
 use crate::tally::Tally;
 use crate::{agreed, reference};
-use cerahupo::Decision;
+use cerahupo::{Comparison, Decision};
 
 /// A length to lend for a listing of so many words: exact, a word or a record too few or too many, or any.
 fn lent_length(words: usize, random: &mut Random) -> usize {
@@ -113,4 +113,65 @@ fn many_records() {
             assert_eq!(answer.ok(), (words >= 4 * records).then_some(records as u64));
         }
     }
+}
+
+/// A policy whose empty set has the property, and so each rule alone: a sum under a threshold below 0, or a mul under one of 100
+/// or more. It is mentioned once, under either sense.
+fn undemanding_book(random: &mut Random, tally: &mut Tally) -> (String, Vec<u32>) {
+    let sum = random.one_in(2);
+    let (operator, most_rules, idle) = if sum { ("sum", 16, 0) } else { ("mul", 8, 100) };
+    let edge = random.one_in(2);
+    let threshold = match (sum, edge) {
+        (true, true) => -1,
+        (true, false) => random.within(-200_000..=-1),
+        (false, true) => 100,
+        (false, false) => random.within(100..=200_000),
+    };
+    let mut signals: Vec<u32> = (0..16).collect();
+    random.shuffle(&mut signals);
+    signals.truncate(random.below(most_rules + 1));
+    let scores: Vec<i64> = signals.iter().map(|_| *random.pick(&[0, 1, 50, 99, 100])).collect();
+    let rules: String = signals.iter().zip(&scores).map(|(signal, score)| format!("r {signal} {score}\n")).collect();
+    let sense = *random.pick(&["<", ">="]);
+    tally.count(operator);
+    tally.count(sense);
+    tally.count(if signals.is_empty() { "no rules" } else { "rules" });
+    tally.count(if scores.contains(&idle) { "a rule that changes nothing" } else { "none such" });
+    let default = random.within(-300..=300);
+    (format!("p {operator} {default}\n{rules}c {threshold} {sense} p0\n"), signals)
+}
+
+/// Change request 4: the lines are the single rules, and each demands its signal.
+#[test]
+fn each_rule_a_line() {
+    let mut random = Random::of("each rule a line");
+    let mut tally = Tally::new("each rule a line");
+    for _ in 0..rounds(4_000) {
+        let (book, signals) = undemanding_book(&mut random, &mut tally);
+        let mut lent = lent(4 * 17, &mut random);
+        let records = agreed::compile(book.as_bytes(), 0, &mut lent).expect("there is room");
+        let words = &lent.slice()[..4 * records as usize];
+        let mut lines: Vec<u32> = words.chunks(4).skip(1).map(|line| line[1]).collect();
+        let mut rules: Vec<u32> = signals.iter().map(|signal| 1 << signal).collect();
+        lines.sort();
+        rules.sort();
+        assert_eq!(lines, rules, "lines of {book:?}");
+    }
+    tally.finish(&["sum", "mul", "<", ">=", "no rules", "rules", "a rule that changes nothing"]);
+}
+
+/// Before change request 4 such a listing had one line of mask 0. It is sound, and says the same of every set.
+#[test]
+fn older_lines_answer_alike() {
+    let mut random = Random::of("older lines");
+    let mut tally = Tally::new("older lines");
+    for _ in 0..rounds(40) {
+        let (book, _) = undemanding_book(&mut random, &mut tally);
+        let mut lent = lent(4 * 17, &mut random);
+        let records = agreed::compile(book.as_bytes(), 0, &mut lent).expect("there is room");
+        let newer = &lent.slice()[..4 * records as usize];
+        let older = [newer[0], newer[1], 2, 0, 4, 0, 0, 0];
+        assert_eq!(agreed::compare(&older, newer), Ok(Comparison::Alike), "listings of {book:?}");
+    }
+    tally.finish(&["sum", "mul", "<", ">=", "rules"]);
 }

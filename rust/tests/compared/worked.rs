@@ -39,7 +39,7 @@ fn corners_of_book_a() {
     assert_eq!([say(&book, 3), say(&book, 0), say(&book, 11)], [Yes, No, No]);
     assert_eq!(say(&with(BOOK_A, "c 60 < p0"), 6), No);
     assert_eq!(say(&with(BOOK_A, "c 60 >= p0"), 6), Yes);
-    assert_eq!(listing(&with(BOOK_A, "c -1 < p0")), [17, 7, 2, 0, 4, 0, 0, 0]);
+    assert_eq!(listing(&with(BOOK_A, "c -1 < p0")), [17, 7, 2, 0, 4, 1, 0, 3, 4, 4, 0, 4, 4, 2, 0, 0]);
 }
 
 #[test]
@@ -129,4 +129,18 @@ fn scores_printed() {
     assert_eq!(printed(-5, 0), "-5 hundredths");
     // No accepted book has such a score: rounded toward minus infinity, -6 and a fourth is -5.75.
     assert_eq!(printed(-6, 25_000_000_000_000), "-5.75 hundredths");
+}
+
+/// Change request 4: where the empty set has the property, each rule is a line, and without rules there is none.
+#[test]
+fn lines_that_demand_something() {
+    let unit = "p mul 100\nr 0 50\nr 1 100\n";
+    assert_eq!(listing(&with(unit, "c 100 >= p0")), [17, 3, 2, 0, 4, 1, 0, 3, 4, 2, 0, 0]);
+    assert_eq!(listing(&with(unit, "c 100 < p0")), [18, 3, 2, 0, 4, 1, 0, 3, 4, 2, 0, 0]);
+    assert_eq!(listing(&with(unit, "c 99 >= p0")), [16, 3, 2, 0, 4, 1, 0, 0]);
+    assert_eq!(listing(&with("p sum 0\nr 0 0\n", "c -1 < p0")), [17, 1, 2, 0, 4, 1, 0, 0]);
+    assert_eq!(listing(&with("p sum 0\nr 0 0\n", "c 0 < p0")), [16, 1, 0, 0]);
+    for bare in [with("p sum 0\n", "c -1 < p0"), with("p mul 100\n", "c 100 >= p0")] {
+        assert_eq!((listing(&bare), say(&bare, 0), say(&bare, 3)), (vec![17, 0, 0, 0], Yes, Yes));
+    }
 }

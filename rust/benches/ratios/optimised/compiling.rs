@@ -147,7 +147,6 @@ impl Search {
         match self.operator {
             Operator::Max => self.singles(|score| score > self.limit, tell),
             Operator::Min => self.singles(|score| score <= self.limit, tell),
-            _ if self.is_line(self.start()) => tell(0),
             _ => self.extend(0, self.start(), 0, tell),
         }
     }

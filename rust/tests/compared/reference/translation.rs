@@ -99,12 +99,13 @@ fn singles(ranked: &[Rule], has: impl Fn(i64) -> bool) -> Vec<u32> {
     ranked.iter().rev().filter(|rule| has(rule.score)).map(|rule| mask_of(&[*rule])).collect()
 }
 
-/// A set of rules is a number here, bit k for rank k. A set is minimal if it has the property and none inside it has.
+/// A set of rules is a number here, bit k for rank k. Minimal sets are sought among those that are not empty: such a set is
+/// minimal if it has the property and no smaller one inside it has.
 fn minimal_sets(ranked: &[Rule], has: impl Fn(&[Rule]) -> bool) -> Vec<u32> {
     let rules_of = |set: usize| (0..ranked.len()).filter(|k| set >> k & 1 == 1).map(|k| ranked[k]).collect::<Vec<_>>();
     let mut some_inside = vec![false; 1 << ranked.len()];
     let mut minimal = Vec::new();
-    for set in 0..some_inside.len() {
+    for set in 1..some_inside.len() {
         let smaller = (0..ranked.len()).any(|k| set >> k & 1 == 1 && some_inside[set - (1 << k)]);
         some_inside[set] = smaller || has(&rules_of(set));
         if some_inside[set] && !smaller {
