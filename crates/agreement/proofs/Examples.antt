@@ -89,7 +89,7 @@ missing-old-yes = refl
 abbrev wordsBefore : String → Answer (List ℕ)
 wordsBefore text = onResult (asked (bytes text) 0) (λ (found : Book × Condition). result (words (recordsBefore (found .0) (found .1))))
 
--- case h as document 01 has it: kind 17, one line, mask 0
-before-h : wordsBefore "p sum 0\nr 0 40\nr 1 30\nr 2 30\nc -1 < p0\n" ≡ result (17 ∷ 7 ∷ 2 ∷ 0 ∷ 4 ∷ 0 ∷ 0 ∷ 0 ∷ [])
+-- case h as document 01 has it, book A with `c -1 < p0`: kind 17, one line, mask 0
+before-h : wordsBefore "p sum 0\nr 0 40\nr 1 30\nr 2 30\np min 100\nr 3 20\nc -1 < p0\n" ≡ result (17 ∷ 7 ∷ 2 ∷ 0 ∷ 4 ∷ 0 ∷ 0 ∷ 0 ∷ [])
 unfolding minimalBefore linesBefore listedBefore recordsBefore has compilerComputes
 before-h = refl
