@@ -14,8 +14,9 @@ use Rattle.arith.proofs.DistinctLists.{distinct-inside, inside-map}
 use Rattle.arith.proofs.Each.{each-map, map-same}
 use Rattle.arith.proofs.Members.{each-in, each-out}
 use Rattle.arith.proofs.Reordering.{same-reordered, length-reordered, some-reordered}
+use Rattle.arith.proofs.Sublists.{kept-inside}
 use Rattle.arith.proofs.Tests.{clash}
-use Rattle.signals.specs.Sets.{present, setOf}
+use Rattle.signals.specs.Sets.{present, inside, setOf}
 use Rattle.signals.proofs.SetOfLaws.{present-set}
 use Rattle.peal.specs.Policies.{Rule, Policy}
 use Rattle.peal.specs.Ranking.{ranked}
@@ -25,11 +26,13 @@ use Rattle.peal.specs.Having.{has}
 use Rattle.peal.specs.LinesAreMinimal.{MinimalLines}
 use Rattle.peal.specs.Score.{presentRules}
 use Rattle.peal.specs.Translation.{maskOf}
+use Rattle.peal.specs.Presence.{allPresent}
 use Rattle.peal.specs.MasksDecide.{SignalsFit}
 use Rattle.peal.specs.declared.Operator.{Operator}
 use Rattle.peal.proofs.HavingLaws.{has-reordered}
 use Rattle.peal.proofs.LineLaws.{lines-are-minimal}
-use Rattle.peal.proofs.MaskLaws.{ranked-fit, fewer-fit}
+use Rattle.peal.proofs.MaskLaws.{masks-decide, ranked-fit, fewer-fit}
+use Rattle.peal.proofs.MinimalSets.{minimal-inside}
 use Rattle.peal.proofs.OrderLaws.{order-then, order-map}
 use Rattle.peal.proofs.RankLaws.{ranked-reordered}
 use Rattle.agreement.specs.Demand3.{MinimalMask, MinimalMasks}
@@ -131,3 +134,13 @@ module _ (p : Policy) (t : ℤ) (fit : SignalsFit (p .rules)) where
         once = masks-once;
         demands = λ m k. let x = line-minimal m k in omega (arith, x .same, mask-some (x .rules) (x .minimal .some));
       }
+
+  -- a mask that lies inside another is of a set inside the other's, and so the same
+  pub minimal-mask-inside : (m k : ℕ) → MinimalMask p t m → MinimalMask p t k → inside k m ≡ true → k ≡ m
+  unfolding presentRules allPresent
+  minimal-mask-inside m k x y i =
+      let present : allPresent m (y .rules) ≡ true =
+      sym (masks-decide (y .rules) m (fewer-fit (y .ofPolicy) fit) .0) ∙ ap (λ (n : ℕ). inside n m) (sym (y .same)) ∙ i in
+      let rules : presentRules m (p .rules) ≡ x .rules = ap (λ (n : ℕ). presentRules n (p .rules)) (x .same) ∙ present-in-mask (x .ofPolicy) fit in
+      let within : SetInside (y .rules) (x .rules) = subst (SetInside (y .rules)) rules (kept-inside _ (y .ofPolicy) present) in
+      y .same ∙ ap maskOf (minimal-inside _ (x .minimal) (y .minimal) within) ∙ sym (x .same)

@@ -1,8 +1,8 @@
 -- Laws of a list in another order.
 use Prim.Native.Nat.{suc}
 use mathlib.Core.Bool.{Bool, true, false, cond, _||_}
-use mathlib.Core.List.{List, _∷_, List·Memᴰ, List·Permᴰ, List·Permᴰ·nil, List·Permᴰ·cons, List·Permᴰ·swap, List·Permᴰ·trans, Permᴰ·refl}
-use mathlib.Core.Path.{_≡_, refl, ap, subst, _∙_}
+use mathlib.Core.List.{List, _∷_, List·Memᴰ, List·Memᴰ·head, List·Memᴰ·tail, List·Permᴰ, List·Permᴰ·nil, List·Permᴰ·cons, List·Permᴰ·swap, List·Permᴰ·trans, Permᴰ·refl}
+use mathlib.Core.Path.{_≡_, refl, sym, ap, subst, _∙_}
 use lib.ListN.{length}
 use Rattle.arith.specs.Lists.{any, keep, nonEmpty, Each}
 use Rattle.arith.proofs.Members.{each-in, each-out}
@@ -18,6 +18,13 @@ module _ {A : Type 0} where
   pub among-reordered : {X Y : List A} {x : A} → List·Permᴰ X Y → List·Memᴰ x Y → List·Memᴰ x X
   among-reordered {X} d m =
       let AmongX : A → Type 0 = λ x. List·Memᴰ x X in each-out AmongX (each-reordered AmongX d (each-in AmongX X (λ x k. k))) m
+
+  -- a member first, and the others after it
+  pub member-first : {x : A} {X : List A} → List·Memᴰ x X → (Y : List A) × List·Permᴰ X (x ∷ Y)
+  member-first (List·Memᴰ·head {xs = X} e) = (X, List·Permᴰ·cons (sym e) (Permᴰ·refl X))
+  member-first (List·Memᴰ·tail {x = y} m) =
+      let (Y, d) = member-first m in
+      (y ∷ Y, List·Permᴰ·trans (List·Permᴰ·cons refl d) (List·Permᴰ·swap refl refl))
 
   pub keep-reordered : (test : A → Bool) {X Y : List A} → List·Permᴰ X Y → List·Permᴰ (keep test X) (keep test Y)
   keep-reordered test List·Permᴰ·nil = List·Permᴰ·nil

@@ -3,10 +3,11 @@ use Prim.Native.Nat.{_≤_, _<_}
 use mathlib.Core.Bool.{Bool, true, false, cond}
 use mathlib.Core.List.{List, [], _∷_, _++_, Sublistᴰ, Sublistᴰ·slnil, Sublistᴰ·cons, Sublistᴰ·cons-cons, Sublistᴰ·eq-nil, Sublistᴰ·nil-sublist, Sublistᴰ·refl}
 use mathlib.Core.Logic.{_⊎_, inl, inr, ⊎-elim}
-use mathlib.Core.Path.{_≡_, refl, sym, ap, ap₂, subst}
+use mathlib.Core.Path.{_≡_, refl, sym, ap, ap₂, subst, _∙_}
 use native.Mathlib.Omega.{arith}
 use lib.ListN.{length}
-use Rattle.arith.specs.Lists.{keep, Each}
+use Rattle.arith.specs.Lists.{every, keep, Each}
+use Rattle.arith.proofs.Tests.{and-left, and-right}
 
 module _ {A : Type 0} where
   pub inside-length : {Y X : List A} → Sublistᴰ Y X → length Y ≤ length X
@@ -34,6 +35,24 @@ module _ {A : Type 0} where
       go : (t : Bool) → Sublistᴰ (keep test xs) xs → Sublistᴰ (cond t (x ∷ keep test xs) (keep test xs)) (x ∷ xs)
       go true s = Sublistᴰ·cons-cons refl s
       go false s = Sublistᴰ·cons s
+
+  -- a list inside X whose members all pass the test lies inside those that are kept
+  pub kept-inside : (test : A → Bool) {Y X : List A} → Sublistᴰ Y X → every test Y ≡ true → Sublistᴰ Y (keep test X)
+  kept-inside test Sublistᴰ·slnil h = Sublistᴰ·slnil
+  kept-inside test {Y} (Sublistᴰ·cons {a = x} {l₂ = X} s) h = go (test x) (kept-inside test s h)
+    where
+      go : (t : Bool) → Sublistᴰ Y (keep test X) → Sublistᴰ Y (cond t (x ∷ keep test X) (keep test X))
+      go true i = Sublistᴰ·cons i
+      go false i = i
+  kept-inside test (Sublistᴰ·cons-cons {a = y} {b = x} {l₁ = Y} {l₂ = X} e s) h =
+      let passes : test x ≡ true = ap test (sym e) ∙ and-left (test y) (every test Y) h in
+      rw passes (Sublistᴰ·cons-cons e (kept-inside test s (and-right (test y) (every test Y) h)))
+
+  -- a list inside X that is as long as X is X
+  pub whole-inside : {Y X : List A} → Sublistᴰ Y X → length X ≤ length Y → Y ≡ X
+  whole-inside Sublistᴰ·slnil h = refl
+  whole-inside (Sublistᴰ·cons s) h = absurd (omega (arith, inside-length s))
+  whole-inside (Sublistᴰ·cons-cons e s) h = ap₂ {B = List A} (λ x X. x ∷ X) e (whole-inside s (omega arith))
 
   -- a shorter list inside X leaves a member of X out, and lies inside the others
   pub record LeftOut (Y X : List A) : Type 0 where

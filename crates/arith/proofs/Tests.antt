@@ -1,6 +1,6 @@
 -- Laws of tests: Boolean answers, and tests over lists.
 use Prim.Native.Nat.{ℕ, zero, suc, _≤_}
-use mathlib.Core.Bool.{Bool, true, false, not, _&&_, _||_, true≢false}
+use mathlib.Core.Bool.{Bool, true, false, not, _&&_, _||_, Bool·beq, true≢false}
 use mathlib.Core.Logic.{_⊎_, inl, inr}
 use mathlib.Core.Path.{_≡_, refl, sym, ap, _∙_}
 use native.Mathlib.Omega.{arith}
@@ -16,6 +16,17 @@ pub same-answer : (a b : Bool) → (a ≡ true → b ≡ true) → (b ≡ true �
 same-answer true b f g = sym (f refl)
 same-answer false true f g = g refl
 same-answer false false f g = refl
+
+-- two answers that compare as equal are the same, and an answer compares as equal to itself
+pub beq-same : (a b : Bool) → Bool·beq a b ≡ true → a ≡ b
+beq-same true true e = refl
+beq-same true false e = sym e
+beq-same false true e = e
+beq-same false false e = refl
+
+pub beq-self : (b : Bool) → Bool·beq b b ≡ true
+beq-self true = refl
+beq-self false = refl
 
 -- an answer that is not yes is no
 pub not-yes : (a : Bool) → (a ≡ true → ⊥) → a ≡ false

@@ -15,6 +15,7 @@ use Rattle.arith.specs.Lists.{every, any, below}
 use Rattle.arith.proofs.Below.{every-below}
 use Rattle.arith.proofs.Digits.{digits}
 use Rattle.arith.proofs.Order.{le-or-lt}
+use Rattle.arith.proofs.Tests.{beq-same}
 use Rattle.signals.specs.Sets.{present, overlap}
 use Rattle.signals.proofs.SetLaws.{present-zero, present-suc, overlap-and, overlap-below}
 use Rattle.signals.proofs.BitLaws.{present-and, present-or, present-none, present-low, present-high, present-shift}
@@ -22,15 +23,9 @@ use Rattle.blocks.specs.Blocks.{WordOf, without}
 
 -- ---- the patterns of the six lowest signals
 
-agree : (a b : Bool) → Bool·beq a b ≡ true → a ≡ b
-agree true true e = refl
-agree true false e = sym e
-agree false true e = e
-agree false false e = refl
-
 -- by a computed test of all 64 bits
 pub having-signal : (word s signal : ℕ) → every (λ j. Bool·beq (present word j) (present j s)) (below 64) ≡ true → signal ≡ s → WordOf (λ j. present j signal) word
-having-signal word s signal e h j l = agree _ _ (every-below (λ i. Bool·beq (present word i) (present i s)) 64 e j l) ∙ ap (present j) (sym h)
+having-signal word s signal e h j l = beq-same _ _ (every-below (λ i. Bool·beq (present word i) (present i s)) 64 e j l) ∙ ap (present j) (sym h)
 
 -- ---- one signal spread
 

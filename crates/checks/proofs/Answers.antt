@@ -2,10 +2,13 @@
 use Prim.Native.Nat.{ℕ, _+_, _-_, _*_, _^_, _<_}
 use mathlib.Core.Bool.{Bool, true, false, not, cond, _&&_, Bool·not-not}
 use mathlib.Core.List.{List}
+use mathlib.Core.Logic.{_↔_, _⊎_, inl, inr, ⊎-elim}
 use mathlib.Core.Option.{Option, none, some}
 use mathlib.Core.Path.{_≡_, refl, ap, ap₂, _∙_}
+use native.Mathlib.Omega.{arith}
 use lib.Bits.{bitAnd, bitXor}
 use Rattle.answers.specs.Answers.{result, refused}
+use Rattle.arith.proofs.Tests.{clash}
 use Rattle.signals.specs.Sets.{present}
 use Rattle.signals.proofs.BitLaws.{present-and, present-xor, present-not}
 use Rattle.blocks.specs.Blocks.{WordOf, BlockOf}
@@ -13,7 +16,7 @@ use Rattle.layout.specs.Judgement.{verdict}
 use Rattle.rod.specs.Reading.{says}
 use Rattle.checks.specs.Checks.{permitted, gives, lowestSet, always, never, both, choice, choiceOf, first, second, alike, differ, declined, comparison, comparisonOf, examined, differAt}
 use Rattle.checks.specs.Meaning.{apartBit}
-use Rattle.checks.proofs.Search.{lowest-zero}
+use Rattle.checks.proofs.Search.{lowest-zero, LowestIs, lowest-is}
 use Rattle.checks.proofs.Pairs.{permitted-zero}
 
 -- ---- words
@@ -112,3 +115,25 @@ module _ (one two : List ℕ) where
   pub second-declined : verdict one ≡ result tt → (number value : ℕ) → verdict two ≡ refused number value → declined second number value ≡ comparison one two
   unfolding comparison examined
   second-declined v number value w = rw (v, w) refl
+
+-- ---- what the comparison of two sound listings tells
+
+module _ (one two : List ℕ) (v : verdict one ≡ result tt) (w : verdict two ≡ result tt) where
+  -- it says "alike" and they differ on no set, or it names the lowest set on which they differ, and which says yes there
+  pub comparison-tells : ((comparison one two ≡ alike) × LowestIs (differAt one two) none)
+      ⊎ ((set : ℕ) × (comparison one two ≡ differ set (cond (says one set) first second)) × LowestIs (differAt one two) (some set))
+  unfolding comparison examined comparisonOf
+  comparison-tells = go (lowestSet (differAt one two)) (rw (v, w) refl) (lowest-is (differAt one two))
+    where
+      go : (found : Option ℕ) → comparison one two ≡ comparisonOf found one → LowestIs (differAt one two) found
+          → ((comparison one two ≡ alike) × LowestIs (differAt one two) none)
+          ⊎ ((set : ℕ) × (comparison one two ≡ differ set (cond (says one set) first second)) × LowestIs (differAt one two) (some set))
+      go none c is = inl (c, is)
+      go (some set) c is = inr (set, c, is)
+
+  -- so it says "alike" exactly if they differ on none
+  pub alike-tells : (comparison one two ≡ alike) ↔ LowestIs (differAt one two) none
+  alike-tells =
+      ⊎-elim (λ (c, is). (λ e. is, λ none. c))
+      (λ (set, c, is). (λ e. let z : _≡_ {A = ℕ} 0 1 = cc in absurd (omega arith), λ none. clash (is .1) (none set (is .0))))
+      comparison-tells

@@ -1,11 +1,13 @@
 -- The search for the lowest set, a set, a block and a group at a time.
 use Prim.Native.Nat.{ℕ, zero, suc, _+_, _-_, _*_, _^_, _≤_, _<_}
 use mathlib.Core.Bool.{Bool, true, false, cond}
+use mathlib.Core.Logic.{⊎-elim}
 use mathlib.Core.Option.{Option, none, some}
 use mathlib.Core.Path.{_≡_, refl, sym, ap, _∙_}
 use native.Mathlib.Nat.{add-zero}
 use native.Mathlib.Omega.{arith}
 use lib.Count.{trailingZeros}
+use Rattle.arith.proofs.Order.{le-or-lt}
 use Rattle.signals.specs.Sets.{present}
 use Rattle.blocks.specs.Blocks.{BlockOf}
 use Rattle.signals.proofs.BitLaws.{present-none, lowest-bit}
@@ -43,6 +45,41 @@ module _ (test : ℕ → Bool) where
   pub lowest-zero : test 0 ≡ true → lowestSet test ≡ some 0
   unfolding lowestSet
   lowest-zero e = sym (found-here test 0 (omega arith) e)
+
+-- ---- what was found
+
+-- among the `count` numbers from `from` on: none passes the test, or this is the lowest that does
+abbrev FirstIs : (ℕ → Bool) → ℕ → ℕ → Option ℕ → Type 0
+FirstIs test count from none = (i : ℕ) → from ≤ i → i < from + count → test i ≡ false
+FirstIs test count from (some set) = (from ≤ set) × (set < from + count) × (test set ≡ true) × ((i : ℕ) → from ≤ i → i < set → test i ≡ false)
+
+-- among all sets
+abbrev pub LowestIs : (ℕ → Bool) → Option ℕ → Type 0
+LowestIs test none = (i : ℕ) → i ≤ 65535 → test i ≡ false
+LowestIs test (some set) = (set ≤ 65535) × (test set ≡ true) × ((i : ℕ) → i < set → test i ≡ false)
+
+module _ (test : ℕ → Bool) where
+  first-is : (count from : ℕ) → FirstIs test count from (lowestFrom count from test)
+  unfolding lowestFrom
+  first-is zero from = λ i h l. absurd (omega arith)
+  first-is (suc count) from = go (test from) refl (lowestFrom count (from + 1) test) (first-is count (from + 1))
+    where
+      below : test from ≡ false → (n : ℕ) → ((i : ℕ) → from + 1 ≤ i → i < n → test i ≡ false) → (i : ℕ) → from ≤ i → i < n → test i ≡ false
+      below e n later i h l =
+          ⊎-elim (λ (g : from + 1 ≤ i). later i g l) (λ (g : i < from + 1). let same : i ≡ from = omega arith in ap test same ∙ e) (le-or-lt (from + 1) i)
+
+      go : (b : Bool) → test from ≡ b → (found : Option ℕ) → FirstIs test count (from + 1) found → FirstIs test (suc count) from (cond b (some from) found)
+      go true e found h = (omega arith, omega arith, e, λ i g l. absurd (omega arith))
+      go false e none h = below e (from + suc count) (λ i g l. h i g (omega arith))
+      go false e (some set) h = (omega (arith, h .0), omega (arith, h .1), h .2, below e set (h .3))
+
+  pub lowest-is : LowestIs test (lowestSet test)
+  unfolding lowestSet lowestSince
+  lowest-is = go (lowestFrom 65536 0 test) (first-is 65536 0)
+    where
+      go : (found : Option ℕ) → FirstIs test 65536 0 found → LowestIs test found
+      go none h = λ i l. h i (omega arith) (omega arith)
+      go (some set) h = (omega (arith, h .1), h .2, λ i l. h .3 i (omega arith) l)
 
 -- ---- a block at a time
 

@@ -1,7 +1,7 @@
 -- A sound listing is the listing of its excluded pairs and its nodes, and those are well-formed.
 use Prim.Native.Nat.{ℕ, _+_, _-_, _%_, _≤_, _<_}
 use mathlib.Core.Bool.{Bool, true, false, not, cond, _&&_, false≢true}
-use mathlib.Core.List.{List, [], _∷_, _++_, append-assoc, append-nil}
+use mathlib.Core.List.{List, [], _∷_, _++_, append-assoc, append-nil, List·Memᴰ, List·Memᴰ·head, List·Memᴰ·tail}
 use mathlib.Core.Option.{none, some}
 use mathlib.Core.Logic.{_⊎_, inl, inr, ⊎-elim}
 use mathlib.Core.Path.{_≡_, refl, sym, ap, ap₂, subst, _∙_}
@@ -306,6 +306,11 @@ lines-fit n m so (r ∷ rest) o h = go (kindOf (r .kind)) (sound-step n so r res
     go (Kind.join j) e s ih = tt
     go exclusion e s ih = tt
     go unknown e s ih = tt
+
+-- each of them is a signal set inside the mask
+pub line-fits : (mask : ℕ) {ls : List ℕ} {l : ℕ} → LinesFit mask ls → List·Memᴰ l ls → (l ≤ 65535) × (inside l mask ≡ true)
+line-fits mask h (List·Memᴰ·head e) = rw e (h .0, h .1)
+line-fits mask h (List·Memᴰ·tail m) = line-fits mask (h .2) m
 
 -- the nodes of a judgement that ends in sound are well-formed
 pub sound-well-formed : (n : ℕ) (so : SoFar) (rs : List Record) → judged n so rs ≡ result tt → WellFormed (so .values) (so .policies) (nodes rs)

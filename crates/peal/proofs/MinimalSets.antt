@@ -1,15 +1,17 @@
 -- Minimal sets as they are listed, and as the documents say it of every smaller non-empty set inside.
-use Prim.Native.Nat.{_<_}
+use Prim.Native.Nat.{_≤_, _<_}
 use mathlib.Core.Bool.{Bool, true, not}
 use mathlib.Core.List.{List, Sublistᴰ·refl, Sublistᴰ·trans}
-use mathlib.Core.Logic.{_↔_}
+use mathlib.Core.Logic.{_↔_, ⊎-elim}
 use mathlib.Core.Path.{_≡_, sym, ap, _∙_}
 use lib.Dec.{ltb}
 use lib.ListN.{length}
 use borrow.Author.Tests.{not-true, ltb-true, lt-ltb}
 use Rattle.arith.specs.Lists.{every, nonEmpty, subsets}
 use Rattle.arith.proofs.Keep.{keep-same}
-use Rattle.arith.proofs.Tests.{same-answer, and-left, and-right}
+use Rattle.arith.proofs.Order.{le-or-lt}
+use Rattle.arith.proofs.Sublists.{whole-inside}
+use Rattle.arith.proofs.Tests.{clash, same-answer, and-left, and-right}
 use Rattle.arith.proofs.Members.{each-in, each-out, every-each, each-every, keep-in, keep-out}
 use Rattle.arith.proofs.Subsets.{subsets-in, subsets-out}
 use Rattle.peal.specs.Policies.{Rule}
@@ -64,6 +66,13 @@ module _ (property : List Rule → Bool) where
     λ m. let (k, least) = keep-out (minimal property) (setsInside rules) m in let (s, some) = inside-out rules k in (s, minimal-out X some least),
     λ (s, least). keep-in (minimal property) (inside-in s (least .some)) (minimal-in X least),
   )
+
+  -- no minimal set lies inside another
+  pub minimal-inside : {Y X : List Rule} → IsMinimal property X → IsMinimal property Y → SetInside Y X → Y ≡ X
+  minimal-inside {Y} {X} x y s =
+      ⊎-elim (λ (h : length X ≤ length Y). whole-inside s h)
+      (λ (h : length Y < length X). clash (y .holds) (x .noSmaller Y s (y .some) h))
+      (le-or-lt (length X) (length Y))
 
 -- another property that says the same of each non-empty set inside
 module _ (property other : List Rule → Bool) where

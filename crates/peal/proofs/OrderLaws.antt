@@ -1,15 +1,16 @@
 -- Laws of lists whose members stand to every later one as asked.
 use Prim.Native.Nat.{ℕ, zero, suc, _≤_, _<_}
-use mathlib.Core.List.{List, [], _∷_, map, Sublistᴰ, Sublistᴰ·slnil, Sublistᴰ·cons, Sublistᴰ·cons-cons, List·Permᴰ, List·Permᴰ·nil, List·Permᴰ·cons, List·Permᴰ·swap, List·Permᴰ·trans}
-use mathlib.Core.Path.{_≡_}
+use mathlib.Core.List.{List, [], _∷_, map, List·Memᴰ·head, List·Memᴰ·tail, List·Memᴰ·not-nil, List·Memᴰ·cases-cons, Sublistᴰ, Sublistᴰ·slnil, Sublistᴰ·cons, Sublistᴰ·cons-cons, List·Permᴰ, List·Permᴰ·nil, List·Permᴰ·cons, List·Permᴰ·swap, List·Permᴰ·trans, Permᴰ·refl, Permᴰ·symm}
+use mathlib.Core.Logic.{_↔_, ⊎-elim}
+use mathlib.Core.Path.{_≡_, refl, sym}
 use native.Mathlib.Omega.{arith}
 use Rattle.arith.specs.Lists.{Each, below, Distinct}
 use Rattle.arith.proofs.Distinct.{absent-each}
 use Rattle.arith.proofs.Each.{each-map}
 use Rattle.arith.proofs.Members.{each-in, each-out}
 use Rattle.arith.proofs.Sublists.{each-inside}
-use Rattle.arith.proofs.Reordering.{each-reordered}
-use Rattle.peal.specs.SetsOfRules.{InOrder}
+use Rattle.arith.proofs.Reordering.{each-reordered, among-reordered, member-first}
+use Rattle.peal.specs.SetsOfRules.{Among, InOrder}
 
 module _ {A : Type 0} (R : A → A → Type 0) where
   pub order-then : (S : A → A → Type 0) → ((a b : A) → R a b → S a b) → (X : List A) → InOrder R X → InOrder S X
@@ -44,3 +45,24 @@ below-each (suc n) m h = (h, below-each n m (omega arith))
 pub below-order : (n : ℕ) → InOrder (λ (k j : ℕ). j < k) (below n)
 below-order zero = tt
 below-order (suc n) = (below-each n n (omega arith), below-order n)
+
+module _ {A : Type 0} where
+  -- no member stands there twice
+  abbrev pub Once : List A → Type 0
+  Once X = InOrder (λ (x later : A). x ≡ later → ⊥) X
+
+  -- two lists with the same members, each once, are the same in another order
+  pub once-reordered : (X Y : List A) → Once X → Once Y → ((x : A) → Among x X ↔ Among x Y) → List·Permᴰ X Y
+  once-reordered [] [] o p same = Permᴰ·refl []
+  once-reordered [] (y ∷ Y) o p same = absurd (List·Memᴰ·not-nil (same y .1 (List·Memᴰ·head refl)))
+  once-reordered (x ∷ X) Y o p same =
+      let (Z, d) = member-first (same x .0 (List·Memᴰ·head refl)) in
+      let q : Once (x ∷ Z) = order-reordered (λ (x later : A). x ≡ later → ⊥) (λ a b h e. h (sym e)) d p in
+      let there : (z : A) → Among z X → Among z Z =
+      λ z m. others z Z (each-out (λ (y : A). x ≡ y → ⊥) (o .0) m) (among-reordered (Permᴰ·symm d) (same z .0 (List·Memᴰ·tail m))) in
+      let back : (z : A) → Among z Z → Among z X =
+      λ z m. others z X (each-out (λ (y : A). x ≡ y → ⊥) (q .0) m) (same z .1 (among-reordered d (List·Memᴰ·tail m))) in
+      List·Permᴰ·trans (List·Permᴰ·cons refl (once-reordered X Z (o .1) (q .1) (λ z. (there z, back z)))) (Permᴰ·symm d)
+    where
+      others : (z : A) (W : List A) → (x ≡ z → ⊥) → Among z (x ∷ W) → Among z W
+      others z W h m = ⊎-elim (λ (e : z ≡ x). absurd (h (sym e))) (λ (k : Among z W). k) (List·Memᴰ·cases-cons m)

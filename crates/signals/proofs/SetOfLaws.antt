@@ -1,21 +1,23 @@
--- Laws of the set of some signals: which are present in it, how large it is, and when it lies inside a set or shares a signal with one.
+-- Laws of the set of some signals: which are present in it, how large it is, and when it lies inside a set or shares a signal with one;
+-- laws of one set inside another.
 use Prim.Native.Nat.{ℕ, zero, suc, _+_, _/_, _%_, _^_, _≤_, _<_}
 use mathlib.Core.Bool.{Bool, true, false, not, _&&_, _||_, not-or-self, or-false}
-use mathlib.Core.List.{List, [], _∷_}
+use mathlib.Core.List.{List, [], _∷_, List·Memᴰ}
 use mathlib.Core.Path.{_≡_, refl, sym, ap, _∙_}
 use native.Mathlib.Nat.{add-zero, pow-suc}
 use native.Mathlib.Omega.{arith}
 use lib.Bits as bits
-use lib.Bits.{bitAnd, and-zero-l}
+use lib.Bits.{bitAnd, and-le-r}
 use lib.Dec.{eqb, eqb·zero-suc, eqb·suc-zero, eqb·suc-suc}
 use lib.Pow.{pow-pos}
 use borrow.Author.Tests.{eqb-true, eqb-false, eq-eqb, ne-eqb, leb-true}
 use Rattle.arith.specs.Lists.{every, any, below, isIn, AllBelow, Distinct}
-use Rattle.arith.proofs.AnyEvery.{every-all, every-same, any-same}
+use Rattle.arith.proofs.AnyEvery.{any-in, any-out, every-all, every-same, any-same}
 use Rattle.arith.proofs.Below.{every-listed, any-listed, every-below}
+use Rattle.arith.proofs.Members.{each-in, each-out, every-each, each-every}
 use Rattle.arith.proofs.Tests.{clash, not-yes, and-left}
 use Rattle.signals.specs.Sets.{signals, isSet, present, inside, overlap, size, isPair, setOf}
-use Rattle.signals.proofs.SetLaws.{present-zero, present-suc, inside-and}
+use Rattle.signals.proofs.SetLaws.{present-zero, present-suc, inside-and, overlap-and}
 use Rattle.signals.proofs.BitLaws.{present-none}
 
 -- ---- one signal more
@@ -78,10 +80,59 @@ module _ (ss : List ℕ) (b : AllBelow 16 ss) (d : Distinct ss) (set : ℕ) wher
       (λ i m. ap (λ (t : Bool). t && present set i) (present-set ss d i))
       ∙ any-listed (present set) 16 ss b
 
+-- ---- one set inside another
+
 -- a set lies inside itself
 pub inside-self : (set : ℕ) → inside set set ≡ true
 unfolding inside
 inside-self set = every-all (λ s. not (present set s) || present set s) (λ s. not-or-self (present set s)) signals
+
+-- each signal of a set that lies inside another is in the other
+signal-there : (a b : ℕ) → inside a b ≡ true → {s : ℕ} → List·Memᴰ s signals → (not (present a s) || present b s) ≡ true
+unfolding inside
+signal-there a b h m =
+    each-out (λ (s : ℕ). (not (present a s) || present b s) ≡ true) (each-every (λ s. not (present a s) || present b s) signals h) m
+
+-- so it lies inside what the other lies inside
+pub inside-then : (a b c : ℕ) → inside a b ≡ true → inside b c ≡ true → inside a c ≡ true
+unfolding inside
+inside-then a b c h k =
+    every-each (λ s. not (present a s) || present c s) signals
+    (each-in (λ (s : ℕ). (not (present a s) || present c s) ≡ true) signals (λ s m.
+    through (present a s) (present b s) (present c s) (signal-there a b h m) (signal-there b c k m)))
+  where
+    through : (x y z : Bool) → (not x || y) ≡ true → (not y || z) ≡ true → (not x || z) ≡ true
+    through false y z p q = refl
+    through true true z p q = q
+    through true false z p q = clash p refl
+
+-- and what shares a signal with it shares one with the other
+pub overlap-then : (a b c : ℕ) → overlap a b ≡ true → inside b c ≡ true → overlap a c ≡ true
+unfolding overlap
+overlap-then a b c h k =
+    let (s, m, shared) = any-out (λ s. present a s && present b s) signals h in
+    any-in (λ s. present a s && present c s) m (through (present a s) (present b s) (present c s) shared (signal-there b c k m))
+  where
+    through : (x y z : Bool) → (x && y) ≡ true → (not y || z) ≡ true → (x && z) ≡ true
+    through false y z p q = p
+    through true true z p q = q
+    through true false z p q = clash p refl
+
+module _ (mask set : ℕ) (small : mask ≤ 65535) (h : inside mask set ≡ true) where
+  -- what both have is the one that lies inside
+  shared-bits : bitAnd mask set ≡ mask
+  shared-bits = eqb-true _ _ (sym (inside-and mask set (omega arith)) ∙ h)
+
+  -- it is no larger a number
+  pub inside-le : mask ≤ set
+  inside-le = omega (arith, shared-bits, and-le-r mask set)
+
+  -- unless it is empty, the two share a signal
+  pub inside-overlap : 0 < mask → overlap set mask ≡ true
+  inside-overlap some =
+      overlap-and set mask (omega arith)
+      ∙ ap (λ (x : ℕ). not (eqb x 0)) (bits.and-comm set mask ∙ shared-bits)
+      ∙ ap not (ne-eqb mask 0 (λ e. omega (arith, e)))
 
 -- ---- pairs
 
@@ -113,6 +164,5 @@ no-signals = refl
 pub pair-not-empty : (mask : ℕ) → isPair mask ≡ true → inside mask 0 ≡ false
 pair-not-empty mask h =
     not-yes (inside mask 0) (λ i.
-    let same : bitAnd mask 0 ≡ mask = eqb-true _ _ (sym (inside-and mask 0 (omega (arith, pair-small mask h))) ∙ i) in
-    let none : mask ≡ 0 = sym same ∙ bits.and-comm mask 0 ∙ and-zero-l mask in
+    let none : mask ≡ 0 = omega (arith, inside-le mask 0 (pair-small mask h) i) in
     clash h (ap isPair none ∙ no-signals))
