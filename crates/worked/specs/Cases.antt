@@ -172,3 +172,16 @@ zero-is-a-line = refl
 no-rules : listing "p sum 0\nc -1 < p0\n" & listing "p mul 100\nc 100 >= p0\n" ≡ result (17 ∷ 0 ∷ 0 ∷ 0 ∷ []) & result (17 ∷ 0 ∷ 0 ∷ 0 ∷ [])
 unfolding allCompute
 no-rules = refl
+
+-- ---- change request 12: same lines, same policy
+
+-- two of three marks, asked by a sum of what was found and by a product of the doubt that each leaves
+unfoldable pub marks : String → String
+marks condition = "p sum 0\nr 0 30\nr 1 30\nr 2 30\np mul 100\nr 0 40\nr 1 50\nr 2 50\n" ++ condition
+
+-- kind 16, mask 7 and the lines 3, 5 and 6, for each in an order of its own
+other-order : listing (marks "c 50 < p0\n") & listing (marks "c 30 >= p1\n")
+    ≡ result (16 ∷ 7 ∷ 2 ∷ 0 ∷ 4 ∷ 6 ∷ 0 ∷ 3 ∷ 4 ∷ 5 ∷ 0 ∷ 4 ∷ 4 ∷ 3 ∷ 0 ∷ 0 ∷ [])
+    & result (16 ∷ 7 ∷ 2 ∷ 0 ∷ 4 ∷ 5 ∷ 0 ∷ 3 ∷ 4 ∷ 3 ∷ 0 ∷ 4 ∷ 4 ∷ 6 ∷ 0 ∷ 0 ∷ [])
+unfolding marks allCompute
+other-order = refl

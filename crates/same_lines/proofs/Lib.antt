@@ -1,0 +1,5 @@
+pub mod Lines
+pub mod Compiled
+pub mod SameLines
+pub mod Examples
+pub mod Premises
