@@ -65,7 +65,8 @@ uint64_t cerahupo_choice(const uint32_t *words, size_t words_length);
 
 /* The comparison of two listings, which may overlap, over all signal sets that hold no excluded pair of either. Result: alike,
  * or the lowest set where they differ and which says yes there. Refusals: those of cerahupo_read, of the first listing, then of
- * the second. */
+ * the second. Listings of one policy each that this library compiled, without excluded pairs and with equal kind and mask, are
+ * alike exactly if they have the same lines, in whatever order; otherwise the set is the lowest line that only one has. */
 uint64_t cerahupo_compare(const uint32_t *one, size_t one_length, const uint32_t *two, size_t two_length);
 
 /* ---- the number taken apart */

@@ -123,6 +123,9 @@ pub fn choice(words: &[u32]) -> Result<Choice, Refusal> {
 }
 
 /// Compares two listings over all signal sets that hold no excluded pair of either.
+///
+/// Listings of one policy each that this library compiled, without excluded pairs and with equal kind and mask, are alike
+/// exactly if they have the same lines, in whatever order; otherwise the set is the lowest line that only one of them has.
 pub fn compare(one: &[u32], two: &[u32]) -> Result<Comparison, Declined> {
     let told = raw::compare(one, two);
     match told.result() {

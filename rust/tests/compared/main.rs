@@ -11,6 +11,7 @@ mod inputs;
 mod listings;
 mod program;
 mod reference;
+mod same_lines;
 mod samples;
 mod tally;
 mod worked;
