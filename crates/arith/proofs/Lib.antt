@@ -2,6 +2,7 @@ pub mod Tests
 pub mod Padding
 pub mod Each
 pub mod Keep
+pub mod Counts
 pub mod Members
 pub mod Sublists
 pub mod NonEmpty

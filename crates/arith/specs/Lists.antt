@@ -42,6 +42,10 @@ abbrev pub below : ℕ → List ℕ
 below zero = []
 below (suc n) = n ∷ below n
 
+-- how many of the numbers below n pass the test
+unfoldable pub countBelow : ℕ → (ℕ → Bool) → ℕ
+countBelow n test = length (keep test (below n))
+
 -- n cells: the list, and then z in the cells beyond it
 unfoldable pub padded {ℓ} : {A : Type ℓ} → ℕ → A → List A → List A
 padded n z xs = xs ++ replicate (n - length xs) z

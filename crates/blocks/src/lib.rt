@@ -1,7 +1,9 @@
 // A block is the 64 sets from 64 * block on. A word of 64 bits tells one thing of each of them: bit j is for the set
 // 64 * block + j. So the six lowest signals have the same patterns in every block. The functions are for the crates above.
-ghost use mathlib.Core.Bool.{_&&_, _||_};
-ghost use Prim.Native.Nat.{_%_, _≤_, _<_};
+ghost use mathlib.Core.Bool.{not, _&&_, _||_};
+ghost use mathlib.Core.Path.{_≡_};
+ghost use Prim.Native.Nat.{_+_, _%_, _≤_, _<_};
+ghost use Rattle.arith.specs.Lists.{countBelow};
 ghost use Rattle.signals.specs.Sets.{present, overlap};
 ghost use Rattle.blocks.specs.Blocks.{WordOf, BlockOf, without};
 
@@ -71,4 +73,12 @@ pub fn block_overlap(mask: u32, low: u64, block: u32) -> u64
     ensures { λ r. ⌜ BlockOf (overlap mask) block r ⌝ }
 {
     if mask / 64 & block == 0 { low } else { ALL }
+}
+
+// How many of the word's bits are zero, up to bit `last`, which is looked at too.
+pub fn zeros_up_to(word: u64, last: u32) -> u32
+    requires { ⌜ last < 64 ⌝ }
+    ensures { λ r. ⌜ r ≡ countBelow (last + 1) (λ j. not (present word j)) ⌝ }
+{
+    u64::count_ones(!word << (63 - last))
 }

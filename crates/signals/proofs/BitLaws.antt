@@ -1,14 +1,16 @@
--- Laws of the bits of a number: what `&`, `|`, `^`, `!` and `<<` leave in each, and which is the lowest.
+-- Laws of the bits of a number: what `&`, `|`, `^`, `!` and `<<` leave in each, which is the lowest, and how many are one.
 use Prim.Native.Nat.{ℕ, zero, suc, _+_, _-_, _*_, _/_, _%_, _^_, _<_, min, max}
-use mathlib.Core.Bool.{Bool, true, false, not, _&&_, _||_, Bool·beq}
+use mathlib.Core.Bool.{Bool, true, false, not, cond, _&&_, _||_, Bool·beq}
 use mathlib.Core.Path.{_≡_, refl, sym, ap, ap₂, _∙_}
 use native.Mathlib.Omega.{arith}
-use native.Mathlib.Nat.{pow-suc}
+use native.Mathlib.Nat.{add-zero, pow-suc, mod-lt}
 use lib.Bits.{bitAnd, bitOr, bitXor, and-step, or-step, xor-step, differ}
-use lib.Count.{trailingZeros, under}
+use lib.Count.{trailingZeros, under, ones, ones-step, ones-cat}
 use lib.Dec.{eqb}
-use lib.Pow.{pow-pos, field, mod-mod-pow, shl-shr, shr-shr}
+use lib.Pow.{pow-pos, low, field, mod-pow-add, mod-mod-pow, shl-shr, shr-shr}
 use borrow.Author.Tests.{eq-eqb, ne-eqb}
+use Rattle.arith.specs.Lists.{countBelow}
+use Rattle.arith.proofs.Counts.{count-zero, count-same, count-first}
 use Rattle.arith.proofs.Digits.{two-digits}
 use Rattle.signals.specs.Sets.{present}
 use Rattle.signals.proofs.SetLaws.{present-zero, present-suc}
@@ -105,3 +107,31 @@ lowest-bit (suc k) word p h = go (word % 2) refl (λ (e : word % 2 ≡ 0). lowes
         let t = trailingZeros k (word / 2) in
         (omega (arith, half e .0), record { here = present-suc word t ∙ half e .1 .here; none = none-below e t (half e .1) })
     go (suc d) e half = (omega arith, record { here = present-zero word ∙ eq-eqb (word % 2) 1 (omega arith); none = λ i l. absurd (omega arith) })
+
+-- ---- how many bits are one
+
+-- of a number below 2 to the k: as many as its members below k
+pub ones-count : (k word : ℕ) → word < 2 ^ k → ones word ≡ countBelow k (present word)
+unfolding ones
+ones-count zero word h = let z : word ≡ 0 = omega arith in ap ones z ∙ sym (count-zero (present word))
+ones-count (suc k) word h =
+    ones-step word
+    ∙ ap₂ (λ (a b : ℕ). a + b) (digit (word % 2) (omega arith)) (ones-count k (word / 2) (omega (arith, pow-suc 2 k)))
+    ∙ ap₂ (λ (t : Bool) (b : ℕ). cond t 1 0 + b) (sym (present-zero word)) (count-same (present (word / 2)) (λ i. present word (suc i)) k (λ i l. sym (present-suc word i)))
+    ∙ sym (count-first (present word) k)
+  where
+    digit : (d : ℕ) → d < 2 → d ≡ cond (eqb d 1) 1 0
+    digit zero l = refl
+    digit (suc zero) l = refl
+    digit (suc (suc d)) l = absurd (omega arith)
+
+-- of a number moved up by n within k + n bits: as many as its members below k
+pub ones-shift : (k n word : ℕ) → ones (word * 2 ^ n % 2 ^ (k + n)) ≡ countBelow k (present word)
+unfolding ones
+ones-shift k n word =
+    ap ones (mod-pow-add (word * 2 ^ n) k n)
+    ∙ ap₂ (λ (a b : ℕ). ones (a % 2 ^ k * 2 ^ n + b)) (shl-shr word n) (ap (λ (x : ℕ). x % 2 ^ n) (sym (add-zero (word * 2 ^ n))) ∙ low word n (pow-pos n))
+    ∙ ones-cat n (word % 2 ^ k) 0 (pow-pos n)
+    ∙ add-zero (ones (word % 2 ^ k))
+    ∙ ones-count k (word % 2 ^ k) (mod-lt word (pow-pos k))
+    ∙ count-same (present (word % 2 ^ k)) (present word) k (λ i l. present-low k word i l)
