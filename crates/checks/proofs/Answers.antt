@@ -1,44 +1,30 @@
--- The checks' words, and their answers by the verdicts and the lowest sets.
-use Prim.Native.Nat.{ℕ, _+_, _-_, _*_, _^_, _<_}
-use mathlib.Core.Bool.{Bool, true, false, not, cond, _&&_, Bool·not-not}
+-- The checks' words and tables, and their answers by the verdicts, the lowest sets and how many were judged.
+use Prim.Native.Nat.{ℕ, zero, suc, _+_, _-_, _*_, _^_, _<_}
+use mathlib.Core.Bool.{Bool, true, false, not, cond, _&&_, Bool·beq, Bool·not-not}
 use mathlib.Core.List.{List}
 use mathlib.Core.Logic.{_↔_, _⊎_, inl, inr, ⊎-elim}
 use mathlib.Core.Option.{Option, none, some}
-use mathlib.Core.Path.{_≡_, refl, ap, ap₂, _∙_}
+use mathlib.Core.Path.{_≡_, refl, sym, ap, ap₂, _∙_}
 use native.Mathlib.Omega.{arith}
 use lib.Bits.{bitAnd, bitXor}
+use lib.Dec.{eqb}
+use lib.ListN.{getD, replicate, getD-replicate}
+use borrow.Author.Tests.{ne-eqb}
 use Rattle.answers.specs.Answers.{result, refused}
+use Rattle.arith.specs.Lists.{countBelow}
 use Rattle.arith.proofs.Tests.{clash}
 use Rattle.signals.specs.Sets.{present}
 use Rattle.signals.proofs.BitLaws.{present-and, present-xor, present-not}
-use Rattle.blocks.specs.Blocks.{WordOf, BlockOf}
+use Rattle.blocks.specs.Blocks.{WordOf}
+use Rattle.groups.specs.Groups.{GroupOf}
 use Rattle.layout.specs.Judgement.{verdict}
 use Rattle.rod.specs.Reading.{says}
-use Rattle.checks.specs.Checks.{permitted, gives, lowestSet, always, never, both, choice, choiceOf, first, second, alike, differ, declined, comparison, comparisonOf, examined, differAt}
-use Rattle.checks.specs.Meaning.{apartBit}
+use Rattle.checks.specs.Checks.{permitted, gives, lowestSet, Choice, choice, choiceOf, judgedEnd, judgedSets, chosen, first, second, alike, differ, declined, comparison, comparisonOf, examined, differAt}
+use Rattle.checks.specs.Walking.{chosenBy, apartBit, GroupApart}
 use Rattle.checks.proofs.Search.{lowest-zero, LowestIs, lowest-is}
 use Rattle.checks.proofs.Pairs.{permitted-zero}
 
 -- ---- words
-
--- what is wanted of the sets of a block, by the code's branches
-module _ (barred given : ℕ) (want : Bool) (small : barred < 2 ^ 64) where
-  pub wants-yes : want ≡ true → WordOf (λ j. not (present barred j) && cond want (present given j) (not (present given j))) (bitAnd (2 ^ 64 - 1 - barred) given)
-  wants-yes w j h = rw w (present-and (2 ^ 64 - 1 - barred) given j ∙ ap (λ (t : Bool). t && present given j) (present-not 64 barred j small h))
-
-  pub wants-no : given < 2 ^ 64 → want ≡ false
-      → WordOf (λ j. not (present barred j) && cond want (present given j) (not (present given j))) (bitAnd (2 ^ 64 - 1 - barred) (2 ^ 64 - 1 - given))
-  wants-no less w j h =
-      rw w (present-and (2 ^ 64 - 1 - barred) (2 ^ 64 - 1 - given) j ∙ ap₂ (λ (s t : Bool). s && t) (present-not 64 barred j small h) (present-not 64 given j less h))
-
--- from what is barred and what the listing says
-pub gives-word : (ws : List ℕ) (want : Bool) (block barred given word : ℕ) → BlockOf (λ set. not (permitted ws set)) block barred → BlockOf (says ws) block given
-    → WordOf (λ j. not (present barred j) && cond want (present given j) (not (present given j))) word → BlockOf (gives ws want) block word
-gives-word ws want block barred given word p r w j h = w j h ∙ rw (p j h, r j h, Bool·not-not (permitted ws (64 * block + j))) (go want)
-  where
-    go : (b : Bool) → (permitted ws (64 * block + j) && cond b (says ws (64 * block + j)) (not (says ws (64 * block + j)))) ≡ gives ws b (64 * block + j)
-    go true = refl
-    go false = refl
 
 -- where two words differ, and neither bars
 pub apart-bits : (barred also one two : ℕ) → barred < 2 ^ 64 → also < 2 ^ 64
@@ -49,46 +35,89 @@ apart-bits barred also one two small less j h =
     (present-and (2 ^ 64 - 1 - barred) (2 ^ 64 - 1 - also) j ∙ ap₂ (λ (s t : Bool). s && t) (present-not 64 barred j small h) (present-not 64 also j less h))
     (present-xor one two j)
 
+-- ---- the tables of a group
+
+-- what the empty set gives is told by the first group
+pub empty-told : (ws : List ℕ) (group : ℕ) (values : List ℕ) (before : Bool) → GroupOf (says ws) group values → (0 < group → before ≡ says ws 0)
+    → cond (eqb group 0) (present (getD values 0 0) 0) before ≡ says ws 0
+empty-told ws zero values before g kept = g 0 (omega arith) 0 (omega arith)
+empty-told ws (suc n) values before g kept = rw (ne-eqb (suc n) 0 (λ e. omega arith)) (kept (omega arith))
+
+-- where the listing does not give what the empty set gives
+pub other-group : (ws : List ℕ) (b : Bool) → b ≡ says ws 0 → (group : ℕ) (barred values : List ℕ) (word : ℕ)
+    → GroupOf (λ set. not (permitted ws set)) group barred → GroupOf (says ws) group values → WordOf (λ j. b) word
+    → GroupApart (gives ws (not (says ws 0))) group barred barred values (replicate 16 word)
+other-group ws b e group barred values word p r w k l j h =
+    rw (p k l j h, r k l j h, getD-replicate 16 k word 0 l, w j h ∙ e) (go (says ws 0))
+  where
+    set : ℕ
+    set = 64 * (16 * group + k) + j
+
+    not-yes : (p s : Bool) → (not (not p) && not (not p) && not (Bool·beq s true)) ≡ (p && not s)
+    not-yes true true = refl
+    not-yes true false = refl
+    not-yes false s = refl
+
+    not-no : (p s : Bool) → (not (not p) && not (not p) && not (Bool·beq s false)) ≡ (p && s)
+    not-no true true = refl
+    not-no true false = refl
+    not-no false s = refl
+
+    go : (b : Bool) → (not (not (permitted ws set)) && not (not (permitted ws set)) && not (Bool·beq (says ws set) b)) ≡ gives ws (not b) set
+    go true = not-yes (permitted ws set) (says ws set)
+    go false = not-no (permitted ws set) (says ws set)
+
 -- where the two listings differ
-pub differ-word : (one two : List ℕ) (block barred also a b word : ℕ) → BlockOf (λ set. not (permitted one set)) block barred → BlockOf (λ set. not (permitted two set)) block also
-    → BlockOf (says one) block a → BlockOf (says two) block b → WordOf (apartBit barred also a b) word → BlockOf (differAt one two) block word
+pub differ-group : (one two : List ℕ) (group : ℕ) (barred also firsts seconds : List ℕ)
+    → GroupOf (λ set. not (permitted one set)) group barred → GroupOf (λ set. not (permitted two set)) group also
+    → GroupOf (says one) group firsts → GroupOf (says two) group seconds → GroupApart (differAt one two) group barred also firsts seconds
 unfolding differAt
-differ-word one two block barred also a b word p q r s w j h =
-    w j h ∙ rw (p j h, q j h, r j h, s j h, Bool·not-not (permitted one (64 * block + j)), Bool·not-not (permitted two (64 * block + j))) refl
+differ-group one two group barred also firsts seconds p q r s k l j h =
+    rw (p k l j h, q k l j h, r k l j h, s k l j h, Bool·not-not (permitted one (64 * (16 * group + k) + j)), Bool·not-not (permitted two (64 * (16 * group + k) + j))) refl
 
 -- ---- the choice check
 
+-- below which set the other answer was sought
+abbrev pub soughtTo : Option ℕ → ℕ
+soughtTo (some set) = set + 1
+soughtTo none = 65536
+
+-- the sets are judged as far as the other answer is sought
+yes-first : (other : Option ℕ) → soughtTo other ≡ judgedEnd (choiceOf (some 0) other)
+unfolding judgedEnd choiceOf
+yes-first (some set) = omega arith
+yes-first none = refl
+
+no-first : (other : Option ℕ) → soughtTo other ≡ judgedEnd (choiceOf other (some 0))
+unfolding judgedEnd choiceOf
+no-first (some set) = omega arith
+no-first none = refl
+
 module _ (ws : List ℕ) where
-  chosen : verdict ws ≡ result tt → (y n : Option ℕ) → lowestSet (gives ws true) ≡ y → lowestSet (gives ws false) ≡ n → result (choiceOf y n) ≡ choice ws
+  answered : verdict ws ≡ result tt → (y n : Option ℕ) → lowestSet (gives ws true) ≡ y → lowestSet (gives ws false) ≡ n → choice ws ≡ result (choiceOf y n)
   unfolding choice
-  chosen v y n e f = rw (v, e, f) refl
+  answered v y n e f = rw (v, e, f) refl
 
-  module _ (v : verdict ws ≡ result tt) (yes : true ≡ says ws 0) where
-    gives-yes : gives ws true 0 ≡ true
-    gives-yes = rw (permitted-zero ws v, ← yes) refl
+  counted : (c : Choice) → choice ws ≡ result c → (j end : ℕ) → j ≡ countBelow end (permitted ws) → end ≡ judgedEnd c
+      → result (record { choice = c; judged = j }) ≡ chosen ws
+  unfolding chosen judgedSets
+  counted c e j end f g = rw (e, f, g) refl
 
-    pub yes-then : (n : ℕ) → lowestSet (gives ws false) ≡ some n → result (both 0 n) ≡ choice ws
-    unfolding choiceOf
-    yes-then n e = chosen v (some 0) (some n) (lowest-zero (gives ws true) gives-yes) e
+  sought : (b : Bool) → b ≡ says ws 0 → {other : Option ℕ} → other ≡ lowestSet (gives ws (not (says ws 0))) → other ≡ lowestSet (gives ws (not b))
+  sought b e o = o ∙ ap (λ (t : Bool). lowestSet (gives ws (not t))) (sym e)
 
-    pub yes-always : lowestSet (gives ws false) ≡ none → result always ≡ choice ws
-    unfolding choiceOf
-    yes-always e = chosen v (some 0) none (lowest-zero (gives ws true) gives-yes) e
+  -- of what the empty set gives it is the lowest set, since it has no pair
+  pub chosen-by : verdict ws ≡ result tt → (b : Bool) → b ≡ says ws 0 → (other : Option ℕ) → other ≡ lowestSet (gives ws (not (says ws 0)))
+      → (j : ℕ) → j ≡ countBelow (soughtTo other) (permitted ws) → chosenBy b other j ≡ chosen ws
+  chosen-by v true e other o j h =
+      let empty-gives = lowest-zero (gives ws true) (rw (permitted-zero ws v, ← e) refl) in
+      counted (choiceOf (some 0) other) (answered v (some 0) other empty-gives (sym (sought true e o))) j (soughtTo other) h (yes-first other)
+  chosen-by v false e other o j h =
+      let empty-gives = lowest-zero (gives ws false) (rw (permitted-zero ws v, ← e) refl) in
+      counted (choiceOf other (some 0)) (answered v other (some 0) (sym (sought false e o)) empty-gives) j (soughtTo other) h (no-first other)
 
-  module _ (v : verdict ws ≡ result tt) (no : false ≡ says ws 0) where
-    gives-no : gives ws false 0 ≡ true
-    gives-no = rw (permitted-zero ws v, ← no) refl
-
-    pub no-then : (y : ℕ) → lowestSet (gives ws true) ≡ some y → result (both y 0) ≡ choice ws
-    unfolding choiceOf
-    no-then y e = chosen v (some y) (some 0) e (lowest-zero (gives ws false) gives-no)
-
-    pub no-never : lowestSet (gives ws true) ≡ none → result never ≡ choice ws
-    unfolding choiceOf
-    no-never e = chosen v none (some 0) e (lowest-zero (gives ws false) gives-no)
-
-  pub choice-declined : (number value : ℕ) → verdict ws ≡ refused number value → refused number value ≡ choice ws
-  unfolding choice
+  pub choice-declined : (number value : ℕ) → verdict ws ≡ refused number value → refused number value ≡ chosen ws
+  unfolding chosen choice
   choice-declined number value v = rw v refl
 
 -- ---- the comparison

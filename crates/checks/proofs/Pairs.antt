@@ -4,6 +4,7 @@ use mathlib.Core.Bool.{true, not}
 use mathlib.Core.List.{List}
 use mathlib.Core.Path.{_≡_, sym, ap, _∙_}
 use Rattle.answers.specs.Answers.{result}
+use Rattle.arith.proofs.Each.{each-none}
 use Rattle.arith.proofs.AnyEvery.{any-not-every}
 use Rattle.arith.proofs.Members.{each-in, each-out, every-each}
 use Rattle.signals.specs.Sets.{inside, isPair}
@@ -31,6 +32,11 @@ barred-group ws pairs group table s g k b j h = g k b j h ∙ barred-else ws pai
 pub barred-reached : (ws : List ℕ) (pairs group : ℕ) (table : List ℕ) → SoundWith ws pairs → group ≤ 63 → Reached 10 (masksFrom ws 0 (pairs - 0)) group table
     → GroupOf (λ set. not (permitted ws set)) group table
 barred-reached ws pairs group table s h r = barred-group ws pairs group table s (reached-all (masksFrom ws 0 (pairs - 0)) group table h (pair-masks ws pairs s .sets) r)
+
+-- without pairs every set is permitted
+pub permitted-all : (ws : List ℕ) (pairs : ℕ) → SoundWith ws pairs → pairs ≡ 0 → (set : ℕ) → permitted ws set ≡ true
+unfolding permitted
+permitted-all ws pairs s e set = every-each (λ pair. not (inside pair set)) (excluded (records ws)) (each-none _ (excluded (records ws)) (sym (s .1) ∙ e))
 
 -- set 0 has no pair
 pub permitted-zero : (ws : List ℕ) → verdict ws ≡ result tt → permitted ws 0 ≡ true

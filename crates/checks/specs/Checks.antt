@@ -1,10 +1,11 @@
--- The choice check and the comparison (document 01, "The office's checks"; change request 1 for the sets that they walk).
-use Prim.Native.Nat.{ℕ, zero, suc, _+_, _-_}
+-- The choice check and the comparison (document 01, "The office's checks"; change request 1 for the sets that they walk, change
+-- request 5 for how many of them the choice check judges).
+use Prim.Native.Nat.{ℕ, zero, suc, _+_, max}
 use mathlib.Core.Bool.{Bool, true, false, not, cond, Bool·beq, _&&_}
 use mathlib.Core.List.{List}
 use mathlib.Core.Option.{Option, none, some}
 use Rattle.answers.specs.Answers.{Answer, result, refused, onResult}
-use Rattle.arith.specs.Lists.{every}
+use Rattle.arith.specs.Lists.{every, countBelow}
 use Rattle.signals.specs.Sets.{inside}
 use Rattle.layout.specs.Records.{records}
 use Rattle.layout.specs.Nodes.{excluded}
@@ -27,13 +28,9 @@ lowestFrom (suc count) from test =
     let later = lowestFrom count (from + 1) test in
     cond (test from) (some from) later
 
--- the lowest of the signal sets from `from` on, up to 65,535
-unfoldable pub lowestSince : ℕ → (ℕ → Bool) → Option ℕ
-lowestSince from test = lowestFrom (65536 - from) from test
-
 -- the lowest of all 65,536 signal sets that passes the test, if there is one
 unfoldable pub lowestSet : (ℕ → Bool) → Option ℕ
-lowestSet test = lowestSince 0 test
+lowestSet test = lowestFrom 65536 0 test
 
 -- "always", "never", or "both" with the lowest set that gives yes and the lowest that gives no
 pub data Choice : Type 0 where
@@ -49,6 +46,25 @@ choiceOf none n = never
 -- the choice check of a listing
 unfoldable pub choice : List ℕ → Answer Choice
 choice ws = onResult (verdict ws) (λ u. result (choiceOf (lowestSet (gives ws true)) (lowestSet (gives ws false))))
+
+-- the judging ends before this number: after all sets, or at "both" with the higher of the two
+unfoldable pub judgedEnd : Choice → ℕ
+judgedEnd always = 65536
+judgedEnd never = 65536
+judgedEnd (both y n) = max y n + 1
+
+-- how many sets are judged: those before it that have no excluded pair
+unfoldable pub judgedSets : List ℕ → Choice → ℕ
+judgedSets ws c = countBelow (judgedEnd c) (permitted ws)
+
+-- what the choice check found, and how many sets were judged for it
+pub record Chosen : Type 0 where
+  pub choice : Choice
+  pub judged : ℕ
+
+-- the choice check of a listing, with how many sets were judged
+unfoldable pub chosen : List ℕ → Answer Chosen
+chosen ws = onResult (choice ws) (λ c. result (record { choice = c; judged = judgedSets ws c }))
 
 -- one of the two listings of a comparison
 pub data Which : Type 0 where

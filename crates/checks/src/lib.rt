@@ -1,17 +1,18 @@
 // The office's checks of a listing, and of two, over all signal sets without an excluded pair: in rising order, a group of 1,024
 // sets at a time (docs/DECISIONS.md, D36). A listing is examined once and not for each group.
-ghost use mathlib.Core.Bool.{Bool, not, cond, _&&_};
-ghost use mathlib.Core.Option.{some};
+ghost use mathlib.Core.Bool.{not, cond};
 ghost use mathlib.Core.Path.{_≡_};
-ghost use Prim.Native.Nat.{ℕ, _*_, _≤_, _<_};
-ghost use lib.ListN.{length};
+ghost use Prim.Native.Nat.{_≤_, _<_};
+ghost use lib.Dec.{eqb};
+ghost use lib.ListN.{getD};
 ghost use Rattle.answers.specs.Answers.{result};
 ghost use Rattle.signals.specs.Sets.{present};
-ghost use Rattle.blocks.specs.Blocks.{WordOf, BlockOf};
+ghost use Rattle.blocks.specs.Blocks.{WordOf};
 ghost use Rattle.layout.specs.Judgement.{verdict};
 ghost use Rattle.groups.specs.Groups.{GroupOf, SoundWith};
-ghost use Rattle.checks.specs.Checks.{permitted, gives, lowestSet, lowestSince, choice, differAt, comparison};
-ghost use Rattle.checks.specs.Meaning.{FoundIn, apartBit, foundMeaning, choiceMeaning, comparisonMeaning};
+ghost use Rattle.checks.specs.Checks.{permitted, lowestSet, chosen, differAt, comparison};
+ghost use Rattle.checks.specs.Meaning.{choiceMeaning, comparisonMeaning};
+ghost use Rattle.checks.specs.Walking.{foundMeaning, chosenBy, HasBlocks, LowestIn, apartBit, LowestApart, PermittedUpTo};
 
 // How many groups of 1,024 signal sets there are.
 const GROUPS: u32 = 64;
@@ -36,106 +37,12 @@ fn group_barred(words: &[u32], pairs: usize, group: u32) -> groups::Table
     table
 }
 
-// The sets that are not barred, and give what is wanted.
-fn wanted_word(barred: u64, given: u64, want: bool) -> u64
-    ensures { λ r. ⌜ WordOf (λ j. not (present barred j) && cond want (present given j) (not (present given j))) r ⌝ }
-{
-    if want {
-        !barred & given
-    } else {
-        !barred & !given
-    }
-}
-
 // The set of a word's lowest bit.
 fn lowest_in(block: u32, word: u64) -> u16
     requires { ⌜ (block ≤ 1023) × (0 < word) ⌝ }
-    ensures { λ r. ⌜ ((test : ℕ → Bool) → BlockOf test block word → some r ≡ lowestSince (64 * block) test) ⌝ }
+    ensures { λ r. ⌜ LowestIn block word r ⌝ }
 {
     (64 * block + u64::trailing_zeros(word)) as u16
-}
-
-// The lowest set of the group that has no excluded pair and on which the sound listing gives what is wanted. The values are
-// room to work in: what they hold before and after does not matter.
-fn wanted_in(
-    words: &[u32],
-    pairs: usize,
-    want: bool,
-    group: u32,
-    values: &mut groups::Values,
-) -> Found
-    requires { ⌜ SoundWith (now words) pairs × (group ≤ 63) × (length (now values) ≡ 256) ⌝ }
-    ensures { λ r. ⌜ FoundIn (gives (now (words .entry)) want) group r × (length (now (values .exit)) ≡ 256) ⌝ }
-{
-    let barred = group_barred(words, pairs, group);
-    groups::reading(words, pairs, group, values);
-    let mut k: usize = 0;
-    while k < groups::TABLE_WORDS {
-        let word = wanted_word(barred[k], values[k], want);
-        if word != 0 {
-            return Found::At(lowest_in(16 * group + k as u32, word));
-        }
-        k += 1;
-    }
-    Found::Nowhere
-}
-
-// The lowest set that has no excluded pair and on which the sound listing gives what is wanted.
-fn lowest_wanted(words: &[u32], want: bool) -> Found
-    requires { ⌜ verdict (now words) ≡ result tt ⌝ }
-    ensures { λ r. ⌜ foundMeaning r ≡ lowestSet (gives (now (words .entry)) want) ⌝ }
-{
-    let pairs = groups::pair_count(words);
-    let mut values = [0u64; groups::VALUE_WORDS];
-    let mut group: u32 = 0;
-    while group < GROUPS {
-        let f = wanted_in(words, pairs, want, group, &mut values);
-        let Found::Nowhere = f else {
-            return f;
-        };
-        group += 1;
-    }
-    Found::Nowhere
-}
-
-// Whether a listing leaves a choice.
-pub enum ChoiceAnswer {
-    Always,
-    Never,
-    // The lowest set that gives yes, and the lowest that gives no.
-    Both(u16, u16),
-    // The listing was declined.
-    Declined(layout::Fault),
-}
-
-// Set 0 has no pair, and gives yes or no. So only the other answer is sought.
-fn sound_choice(words: &[u32]) -> ChoiceAnswer
-    requires { ⌜ verdict (now words) ≡ result tt ⌝ }
-    ensures { λ r. ⌜ choiceMeaning r ≡ choice (now (words .entry)) ⌝ }
-{
-    if rod::reading(words, 0) {
-        let no = lowest_wanted(words, false);
-        match no {
-            Found::At(set) => ChoiceAnswer::Both(0, set),
-            Found::Nowhere => ChoiceAnswer::Always,
-        }
-    } else {
-        let yes = lowest_wanted(words, true);
-        match yes {
-            Found::At(set) => ChoiceAnswer::Both(set, 0),
-            Found::Nowhere => ChoiceAnswer::Never,
-        }
-    }
-}
-
-pub fn choice(words: &[u32]) -> ChoiceAnswer
-    ensures { λ r. ⌜ choiceMeaning r ≡ choice (now (words .entry)) ⌝ }
-{
-    let v = layout::check(words);
-    match v {
-        layout::Verdict::Sound => sound_choice(words),
-        layout::Verdict::Declined(fault) => ChoiceAnswer::Declined(fault),
-    }
 }
 
 // The sets that are barred by neither, and on which the two differ.
@@ -145,35 +52,122 @@ fn apart_word(barred: u64, also: u64, first: u64, second: u64) -> u64
     !barred & !also & (first ^ second)
 }
 
-// The lowest set of the group that has no excluded pair of either sound listing and where the two differ. `one` begins with
-// `pairs`, `two` with `others`; the tables are room to work in.
-fn difference_in(
-    one: &[u32],
-    pairs: usize,
-    two: &[u32],
-    others: usize,
-    group: u32,
-    firsts: &mut groups::Values,
-    seconds: &mut groups::Values,
-) -> Found
-    requires { ⌜ SoundWith (now one) pairs × SoundWith (now two) others × (group ≤ 63) ⌝ }
-    requires { ⌜ (length (now firsts) ≡ 256) × (length (now seconds) ≡ 256) ⌝ }
-    ensures { λ r. ⌜ FoundIn (differAt (now (one .entry)) (now (two .entry))) group r ⌝ }
-    ensures { λ _. ⌜ (length (now (firsts .exit)) ≡ 256) × (length (now (seconds .exit)) ≡ 256) ⌝ }
+// The lowest set of the group that is barred by neither, and on which the two differ. Both checks walk a group's blocks here.
+fn lowest_apart(barred: &[u64], also: &[u64], first: &[u64], second: &[u64], group: u32) -> Found
+    requires { ⌜ (group ≤ 63) × HasBlocks (now barred) × HasBlocks (now also) ⌝ }
+    requires { ⌜ HasBlocks (now first) × HasBlocks (now second) ⌝ }
+    ensures { λ r. ⌜ LowestApart group (now (barred .entry)) (now (also .entry))
+        (now (first .entry)) (now (second .entry)) r ⌝ }
 {
-    let barred = group_barred(one, pairs, group);
-    let also = group_barred(two, others, group);
-    groups::reading(one, pairs, group, firsts);
-    groups::reading(two, others, group, seconds);
     let mut k: usize = 0;
     while k < groups::TABLE_WORDS {
-        let word = apart_word(barred[k], also[k], firsts[k], seconds[k]);
+        let word = apart_word(barred[k], also[k], first[k], second[k]);
         if word != 0 {
             return Found::At(lowest_in(16 * group + k as u32, word));
         }
         k += 1;
     }
     Found::Nowhere
+}
+
+// Whether a listing leaves a choice; the last number of each is how many sets were judged.
+pub enum ChoiceAnswer {
+    Always(u32),
+    Never(u32),
+    // The lowest set that gives yes, and the lowest that gives no.
+    Both(u16, u16, u32),
+    // The listing was declined.
+    Declined(layout::Fault),
+}
+
+// What the empty set gives: the first group tells it, whatever stood there before, and it is kept through the others.
+fn empty_gives(before: bool, values: &[u64], group: u32) -> bool
+    requires { ⌜ HasBlocks (now values) ⌝ }
+    ensures { λ r. ⌜ r ≡ cond (eqb group 0) (present (getD (now (values .entry)) 0 0) 0) before ⌝ }
+{
+    if group == 0 {
+        values[0] & 1 == 1
+    } else {
+        before
+    }
+}
+
+// How many of the group's sets are not barred, up to the one of place `last`, which is looked at too. Without pairs none is
+// barred, and nothing has to be counted (docs/DECISIONS.md, D48).
+fn permitted_up_to(barred: &[u64], pairs: usize, last: u32) -> u32
+    requires { ⌜ (last ≤ 1023) × HasBlocks (now barred) ⌝ }
+    ensures { λ r. ⌜ PermittedUpTo (now (barred .entry)) pairs last r ⌝ }
+{
+    if pairs == 0 {
+        return last + 1;
+    }
+    let mut count: u32 = 0;
+    let mut k: usize = 0;
+    while k < (last / 64) as usize {
+        count += blocks::zeros_up_to(barred[k], 63);
+        k += 1;
+    }
+    count + blocks::zeros_up_to(barred[k], last % 64)
+}
+
+// From what the empty set gives, the lowest set that gives the other answer, and how many sets were judged.
+fn answer(empty: bool, other: Found, judged: u32) -> ChoiceAnswer
+    ensures { λ r. ⌜ choiceMeaning r ≡ chosenBy empty (foundMeaning other) judged ⌝ }
+{
+    match other {
+        Found::At(set) => {
+            if empty {
+                ChoiceAnswer::Both(0, set, judged)
+            } else {
+                ChoiceAnswer::Both(set, 0, judged)
+            }
+        }
+        Found::Nowhere => {
+            if empty {
+                ChoiceAnswer::Always(judged)
+            } else {
+                ChoiceAnswer::Never(judged)
+            }
+        }
+    }
+}
+
+// One pass. The empty set comes first and has no pair: so the pass has one of the two answers there, and the lowest set that
+// does not give the same is all that is left to find.
+fn sound_choice(words: &[u32]) -> ChoiceAnswer
+    requires { ⌜ verdict (now words) ≡ result tt ⌝ }
+    ensures { λ r. ⌜ choiceMeaning r ≡ chosen (now (words .entry)) ⌝ }
+{
+    let pairs = groups::pair_count(words);
+    let mut values = [0u64; groups::VALUE_WORDS];
+    let mut empty = false;
+    let mut judged: u32 = 0;
+    let mut group: u32 = 0;
+    while group < GROUPS {
+        let barred = group_barred(words, pairs, group);
+        groups::reading(words, pairs, group, &mut values);
+        empty = empty_gives(empty, &values, group);
+        // The other answer is given where the listing differs from a table of the empty set's; the same sets are barred for both.
+        let same = [blocks::all_if(empty); groups::TABLE_WORDS];
+        let other = lowest_apart(&barred, &barred, &values, &same, group);
+        if let Found::At(set) = other {
+            let last = set as u32 % groups::GROUP_SETS;
+            return answer(empty, other, judged + permitted_up_to(&barred, pairs, last));
+        }
+        judged += permitted_up_to(&barred, pairs, groups::GROUP_SETS - 1);
+        group += 1;
+    }
+    answer(empty, Found::Nowhere, judged)
+}
+
+pub fn choice(words: &[u32]) -> ChoiceAnswer
+    ensures { λ r. ⌜ choiceMeaning r ≡ chosen (now (words .entry)) ⌝ }
+{
+    let v = layout::check(words);
+    match v {
+        layout::Verdict::Sound => sound_choice(words),
+        layout::Verdict::Declined(fault) => ChoiceAnswer::Declined(fault),
+    }
 }
 
 // The lowest set where the two sound listings differ.
@@ -187,7 +181,11 @@ fn lowest_difference(one: &[u32], two: &[u32]) -> Found
     let mut seconds = [0u64; groups::VALUE_WORDS];
     let mut group: u32 = 0;
     while group < GROUPS {
-        let f = difference_in(one, pairs, two, others, group, &mut firsts, &mut seconds);
+        let barred = group_barred(one, pairs, group);
+        let also = group_barred(two, others, group);
+        groups::reading(one, pairs, group, &mut firsts);
+        groups::reading(two, others, group, &mut seconds);
+        let f = lowest_apart(&barred, &also, &firsts, &seconds, group);
         let Found::Nowhere = f else {
             return f;
         };

@@ -3,9 +3,9 @@ use mathlib.Core.Path.{_≡_, refl}
 use lib.IntN.{pos, negsuc}
 use Rattle.answers.specs.Answers.{result, refused}
 use Rattle.layout.specs.Records.{bit}
-use Rattle.checks.specs.Checks.{both, differ, declined, first, second}
-use Rattle.exports.specs.Packing.{packed, countsValue, scoreValue, remainderAfter, itself, choiceValue, packedComparison}
-use Rattle.exports.specs.Unpacking.{codeIn, valueIn, ofFirst, numberOf, unpacked, scoreIn, whichOf, comparisonIn}
+use Rattle.checks.specs.Checks.{always, both, differ, declined, first, second}
+use Rattle.exports.specs.Packing.{packed, countsValue, scoreValue, remainderAfter, itself, choiceValue, chosenValue, packedComparison}
+use Rattle.exports.specs.Unpacking.{codeIn, valueIn, ofFirst, numberOf, unpacked, scoreIn, choiceIn, chosenIn, whichOf, comparisonIn}
 
 -- two policies and one condition
 counted : packed countsValue (result (record { policies = 2; conditions = 1 })) ≡ 65600
@@ -17,10 +17,21 @@ repeated : packed bit (refused 6 3) ≡ 102
 unfolding packed
 repeated = refl
 
--- document 01's `both 3 0`
-chosen : packed choiceValue (result (both 3 0)) ≡ 196672
-unfolding packed choiceValue
-chosen = refl
+-- document 01's `both 3 0`: four sets were judged, so 3 stands from bit 48 on
+both-told : packed chosenValue (result (record { choice = both 3 0; judged = 4 })) ≡ 844424930328640
+unfolding packed choiceValue chosenValue
+both-told = refl
+
+-- all sets were judged: the highest sixteen bits are ones
+always-told : packed chosenValue (result (record { choice = always; judged = 65536 })) ≡ 18446462598732840960
+unfolding packed choiceValue chosenValue
+always-told = refl
+
+-- the highest sets that there are, and all judged: no bit is lost beside another
+highest-told : unpacked chosenIn (packed chosenValue (result (record { choice = both 65535 65534; judged = 65536 })))
+    ≡ result (record { choice = both 65535 65534; judged = 65536 })
+unfolding packed choiceValue chosenValue unpacked codeIn valueIn choiceIn chosenIn
+highest-told = refl
 
 -- on set 5 the first says yes
 differing : packedComparison (differ 5 first) ≡ 327776

@@ -12,7 +12,7 @@ use Rattle.layout.specs.Judgement.{SoFar, noRecord, keepsLayout, soFarAfter, ju
 use Rattle.layout.specs.Steps.{recordsFrom}
 use Rattle.layout.proofs.Places.{from-nil}
 use Rattle.rod.specs.Reading.{rodAnswer}
-use Rattle.checks.specs.Checks.{choice, lowestSet, Comparison, alike, differ, declined, first, second, differAt, comparisonOf, examined, comparison}
+use Rattle.checks.specs.Checks.{choice, chosen, lowestSet, Comparison, alike, differ, declined, first, second, differAt, comparisonOf, examined, comparison}
 use Rattle.exports.proofs.Refusals.{InTable, Refuses, never, by, tried, on-result}
 
 records-few : (ws : List ℕ) → length (records ws) ≤ length ws / 4
@@ -35,9 +35,9 @@ module _ (ws : List ℕ) where
   unfolding rodAnswer
   rod-reading set = on-result verdicts (λ u. never _)
 
-  pub choosing : Refuses 9 10 (length ws / 4) (choice ws)
-  unfolding choice
-  choosing = on-result verdicts (λ u. never _)
+  pub choosing : Refuses 9 10 (length ws / 4) (chosen ws)
+  unfolding chosen choice
+  choosing = on-result (on-result verdicts (λ u. never _)) (λ c. never _)
 
 -- ---- the comparison
 

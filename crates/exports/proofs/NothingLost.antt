@@ -11,19 +11,19 @@ use borrow.Author.Tests.{le-leb, lt-leb, ne-eqb}
 use Rattle.answers.specs.Answers.{Answer, result, refused}
 use Rattle.layout.specs.Records.{bit}
 use Rattle.rod.specs.Reading.{rodAnswer}
-use Rattle.checks.specs.Checks.{Choice, always, never, both, choice, Comparison, alike, differ, declined, first, second, comparison}
+use Rattle.checks.specs.Checks.{Choice, always, never, both, Chosen, chosen, Comparison, alike, differ, declined, first, second, comparison}
 use Rattle.book.specs.Books.{Counts, checked}
 use Rattle.score.specs.Decisions.{scoredAnswer}
 use Rattle.score.specs.Shown.{shownAnswer}
 use Rattle.score.specs.declared.exact.Exact.{Exact}
 use Rattle.compiler.specs.Compiling.{compiled, returned}
-use Rattle.exports.specs.Packing.{asOne, ofSecond, packed, countsValue, scoreValue, remainderAfter, itself, choiceValue, packedComparison}
-use Rattle.exports.specs.Unpacking.{codeIn, valueIn, ofFirst, numberOf, unpacked, countsIn, yesIn, scoreIn, choiceIn, whichOf, differenceIn, comparisonIn}
+use Rattle.exports.specs.Packing.{asOne, ofSecond, packed, countsValue, scoreValue, remainderAfter, itself, choiceValue, chosenValue, packedComparison}
+use Rattle.exports.specs.Unpacking.{codeIn, valueIn, ofFirst, numberOf, unpacked, countsIn, yesIn, scoreIn, choiceIn, chosenIn, whichOf, differenceIn, comparisonIn}
 use Rattle.exports.specs.NothingLost.{NothingLost}
 use Rattle.exports.proofs.Refusals.{Refuses, in-table}
 use Rattle.exports.proofs.BookRefusals.{checking, deciding, scoring, compiling}
 use Rattle.exports.proofs.ListingRefusals.{rod-reading, choosing, Declines, comparing}
-use Rattle.exports.proofs.Results.{counts-small, hundredths-natural, YesBelow, choice-below}
+use Rattle.exports.proofs.Results.{counts-small, hundredths-natural, NamesSets, ChosenFits, chosen-fits}
 
 -- ---- the parts of a number
 
@@ -88,15 +88,30 @@ score-again bytes number set lent x e =
     ap (λ (z : ℤ). pos (natAbs z) -ℤ pos 10000) counted ∙ ap (λ (z : ℤ). z -ℤ pos 10000) (sym counted) ∙ +ℤ-negℤ-cancel (x .hundredths) (pos 10000) in
     subst (λ (a : Answer Exact). scoreIn (remainderAfter lent a) (scoreValue x) ≡ x) e (rw back refl)
 
-choice-again : (c : Choice) → YesBelow c → choiceIn (choiceValue c) ≡ c
+choice-again : (c : Choice) → NamesSets c → choiceIn (choiceValue c) ≡ c
 unfolding choiceIn choiceValue
 choice-again always h = refl
 choice-again never h = refl
 choice-again (both y n) h =
     let v : ℕ = 2 + 2048 * y + 134217728 * n in
-    let yes-set : v / 2048 % 65536 ≡ y = omega arith in
-    let no-set : v / 134217728 ≡ n = omega arith in
+    let yes-set : v / 2048 % 65536 ≡ y = omega (arith, h .0) in
+    let no-set : v / 134217728 ≡ n = omega (arith, h .0) in
     rw (ne-eqb v 0 (omega arith), ne-eqb v 1 (omega arith), yes-set, no-set) refl
+
+-- the value of the choice ends below bit 48
+choice-ends : (c : Choice) → NamesSets c → choiceValue c < 8796093022208
+unfolding choiceValue
+choice-ends always h = omega arith
+choice-ends never h = omega arith
+choice-ends (both y n) h = omega (arith, h .0, h .1)
+
+chosen-again : (c : Chosen) → ChosenFits c → chosenIn (chosenValue c) ≡ c
+unfolding chosenIn chosenValue
+chosen-again c h =
+    let less = choice-ends (c .choice) (h .sets) in
+    let low : (choiceValue (c .choice) + 8796093022208 * (c .judged - 1)) % 8796093022208 ≡ choiceValue (c .choice) = omega (arith, less) in
+    let high : (choiceValue (c .choice) + 8796093022208 * (c .judged - 1)) / 8796093022208 + 1 ≡ c .judged = omega (arith, less, h .some) in
+    rw (low, high, choice-again (c .choice) (h .sets)) refl
 
 -- ---- the comparison
 
@@ -130,6 +145,6 @@ nothing-lost =
       score = λ book condition set lent. told-again scoreValue _ (omega arith) (omega arith) (shownAnswer book condition set) (scoring book condition set) (score-again book condition set lent);
       compile = λ book condition lent. told-again itself itself (omega arith) (omega arith) (returned (compiled book condition lent)) (compiling book condition lent) (λ n e. refl);
       read = λ words set. told-again bit yesIn (omega arith) (omega arith) (rodAnswer words set) (rod-reading words set) (λ b e. yes-again b);
-      choose = λ words. told-again choiceValue choiceIn (omega arith) (omega arith) (choice words) (choosing words) (λ c e. choice-again c (choice-below words c e));
+      choose = λ words. told-again chosenValue chosenIn (omega arith) (omega arith) (chosen words) (choosing words) (λ c e. chosen-again c (chosen-fits words c e));
       compare = λ one two. compared-again (length one / 4) (length two / 4) (comparison one two) (comparing one two);
     }

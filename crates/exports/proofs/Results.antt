@@ -1,6 +1,6 @@
 -- How large results are.
-use Prim.Native.Nat.{ℕ, zero, suc, _+_, _-_, _≤_, _<_}
-use mathlib.Core.Bool.{Bool, true, false, _&&_}
+use Prim.Native.Nat.{ℕ, suc, _+_, _-_, _≤_, _<_}
+use mathlib.Core.Bool.{true, false, _&&_}
 use mathlib.Core.List.{List}
 use mathlib.Core.Option.{Option, none, some}
 use mathlib.Core.Path.{_≡_, refl, sym, ap, subst}
@@ -11,10 +11,12 @@ use lib.Signed.{leZ}
 use borrow.Author.Tests.{leb-true, le-ltb}
 use Rattle.answers.specs.Answers.{result}
 use Rattle.answers.proofs.Results.{result-is, gone-on}
-use Rattle.arith.proofs.Options.{Finds, finds-either}
+use Rattle.arith.proofs.Counts.{count-le, count-some}
 use Rattle.arith.proofs.Tests.{and-left, and-right}
 use Rattle.layout.specs.Judgement.{verdict}
-use Rattle.checks.specs.Checks.{gives, lowestFrom, lowestSince, lowestSet, Choice, always, never, both, choiceOf, choice}
+use Rattle.checks.specs.Checks.{permitted, gives, Choice, always, never, both, choiceOf, choice, judgedEnd, judgedSets, Chosen, chosen}
+use Rattle.checks.proofs.Pairs.{permitted-zero}
+use Rattle.checks.proofs.Search.{LowestIs, lowest-is}
 use Rattle.book.specs.Acceptance.{within}
 use Rattle.book.specs.Books.{read, Counts, checked}
 use Rattle.book.proofs.RangeLaws.{read-in-range}
@@ -42,37 +44,44 @@ hundredths-natural bytes number set x h = go (x .hundredths) (shown-tells .range
         let l = leb-true z 9999 (and-left (leb z 9999) true e) in
         (10000 - suc z, rw (le-ltb 10000 (suc z) (omega arith)), omega arith)
 
--- ---- the sets that the choice check names
+-- ---- the choice check
 
-abbrev Below : ℕ → Option ℕ → Type 0
-Below limit o = Finds (λ (set : ℕ). set < limit) o
+-- the sets that are named are signal sets
+abbrev pub NamesSets : Choice → Type 0
+NamesSets always = Unit {0}
+NamesSets never = Unit {0}
+NamesSets (both y n) = (y < 65536) × (n < 65536)
 
-lowest-below : (limit count from : ℕ) (test : ℕ → Bool) → from + count ≤ limit → Below limit (lowestFrom count from test)
-unfolding lowestFrom
-lowest-below limit zero from test h = tt
-lowest-below limit (suc count) from test h =
-    finds-either (λ (set : ℕ). set < limit) (test from) (some from) (lowestFrom count (from + 1) test) (omega arith)
-    (lowest-below limit count (from + 1) test (omega arith))
+-- 1 to 65,536 sets are judged
+pub record ChosenFits (c : Chosen) : Type 0 where
+  pub sets : NamesSets (c .choice)
+  pub some : 0 < c .judged
+  pub few : c .judged ≤ 65536
 
-set-below : (test : ℕ → Bool) → Below 65536 (lowestSet test)
-unfolding lowestSet lowestSince
-set-below test = lowest-below 65536 65536 0 test (omega arith)
+-- the judging ends after set 0, and with set 65,535 at the latest
+end-within : (c : Choice) → NamesSets c → (0 < judgedEnd c) × (judgedEnd c ≤ 65536)
+unfolding judgedEnd
+end-within always h = (omega arith, omega arith)
+end-within never h = (omega arith, omega arith)
+end-within (both y n) h = (omega arith, omega (arith, h .0, h .1))
 
--- the lowest set that gives yes is a signal set
-abbrev pub YesBelow : Choice → Type 0
-YesBelow always = Unit {0}
-YesBelow never = Unit {0}
-YesBelow (both y n) = y < 65536
+module _ (ws : List ℕ) where
+  of-lowest : (y n : Option ℕ) → LowestIs (gives ws true) y → LowestIs (gives ws false) n → NamesSets (choiceOf y n)
+  unfolding choiceOf
+  of-lowest (some y) (some n) h k = (omega (arith, h .0), omega (arith, k .0))
+  of-lowest (some y) none h k = tt
+  of-lowest none n h k = tt
 
-of-lowest : (yes-set no-set : Option ℕ) → Below 65536 yes-set → YesBelow (choiceOf yes-set no-set)
-unfolding choiceOf
-of-lowest (some y) (some n) h = h
-of-lowest (some y) none h = tt
-of-lowest none n h = tt
-
-pub choice-below : (ws : List ℕ) (c : Choice) → result c ≡ choice ws → YesBelow c
-unfolding choice
-choice-below ws c h =
-    let (u, r, e) = gone-on (verdict ws) _ c (sym h) in
-    subst YesBelow (result-is e)
-    (of-lowest (lowestSet (gives ws true)) (lowestSet (gives ws false)) (set-below (gives ws true)))
+  pub chosen-fits : (c : Chosen) → result c ≡ chosen ws → ChosenFits c
+  unfolding chosen choice judgedSets
+  chosen-fits c h =
+      let (a, e, is) = gone-on (choice ws) _ c (sym h) in
+      let (u, v, is-choice) = gone-on (verdict ws) _ a e in
+      let names = subst NamesSets (result-is is-choice) (of-lowest _ _ (lowest-is (gives ws true)) (lowest-is (gives ws false))) in
+      let (past, within) = end-within a names in
+      subst ChosenFits (result-is is)
+      (record {
+        sets = names;
+        some = count-some (permitted ws) (judgedEnd a) past (permitted-zero ws v);
+        few = omega (arith, count-le (permitted ws) (judgedEnd a), within);
+      })

@@ -5,13 +5,13 @@ use mathlib.Core.List.{List}
 use mathlib.Core.Path.{_≡_}
 use Rattle.layout.specs.Records.{bit}
 use Rattle.rod.specs.Reading.{rodAnswer}
-use Rattle.checks.specs.Checks.{choice, comparison}
+use Rattle.checks.specs.Checks.{chosen, comparison}
 use Rattle.book.specs.Books.{checked}
 use Rattle.score.specs.Decisions.{scoredAnswer}
 use Rattle.score.specs.Shown.{shownAnswer}
 use Rattle.compiler.specs.Compiling.{compiled, returned}
-use Rattle.exports.specs.Packing.{packed, countsValue, scoreValue, remainderAfter, itself, choiceValue, packedComparison}
-use Rattle.exports.specs.Unpacking.{unpacked, countsIn, yesIn, scoreIn, choiceIn, comparisonIn}
+use Rattle.exports.specs.Packing.{packed, countsValue, scoreValue, remainderAfter, itself, chosenValue, packedComparison}
+use Rattle.exports.specs.Unpacking.{unpacked, countsIn, yesIn, scoreIn, chosenIn, comparisonIn}
 
 pub record NothingLost : Type 0 where
   pub check : (book : List ℕ) → unpacked countsIn (packed countsValue (checked book)) ≡ checked book
@@ -23,5 +23,5 @@ pub record NothingLost : Type 0 where
   pub compile : (book : List ℕ) (condition lent : ℕ)
       → unpacked itself (packed itself (returned (compiled book condition lent))) ≡ returned (compiled book condition lent)
   pub read : (words : List ℕ) (set : ℕ) → unpacked yesIn (packed bit (rodAnswer words set)) ≡ rodAnswer words set
-  pub choose : (words : List ℕ) → unpacked choiceIn (packed choiceValue (choice words)) ≡ choice words
+  pub choose : (words : List ℕ) → unpacked chosenIn (packed chosenValue (chosen words)) ≡ chosen words
   pub compare : (one two : List ℕ) → comparisonIn (packedComparison (comparison one two)) ≡ comparison one two

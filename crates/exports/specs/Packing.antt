@@ -1,12 +1,12 @@
 -- An answer as the one number that a call returns: bits 0 to 4 hold a code, the bits from 5 on hold the value.
 -- The code is 0 where the call was accepted, and else the refusal's number, of which there is room for 1 to 20;
 -- the refusals 9 and 10 of the second listing of a comparison have the codes 25 and 26.
-use Prim.Native.Nat.{ℕ, _+_, _*_}
+use Prim.Native.Nat.{ℕ, _+_, _-_, _*_}
 use mathlib.Core.List.{List}
 use mathlib.Core.Path.{_≡_}
 use lib.IntN.{pos, natAbs, _+ℤ_}
 use Rattle.answers.specs.Answers.{Answer, result, refused}
-use Rattle.checks.specs.Checks.{Choice, always, never, both, Comparison, alike, differ, declined, first, second}
+use Rattle.checks.specs.Checks.{Choice, always, never, both, Chosen, Comparison, alike, differ, declined, first, second}
 use Rattle.book.specs.Books.{Counts}
 use Rattle.score.specs.Shown.{shownAnswer}
 use Rattle.score.specs.declared.exact.Exact.{Exact}
@@ -52,6 +52,10 @@ unfoldable pub choiceValue : Choice → ℕ
 choiceValue always = 0
 choiceValue never = 1
 choiceValue (both y n) = 2 + 2048 * y + 134217728 * n
+
+-- and from bit 48 on how many sets were judged, less one: at least the empty set is, and at most 65,536 are
+unfoldable pub chosenValue : Chosen → ℕ
+chosenValue c = choiceValue (c .choice) + 8796093022208 * (c .judged - 1)
 
 -- the comparison: 0 alike, 1 where the second says yes, 3 where the first does, and from bit 16 on the lowest set where they differ
 unfoldable pub packedComparison : Comparison → ℕ

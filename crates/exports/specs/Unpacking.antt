@@ -1,10 +1,10 @@
 -- The answer told again from the number that a call returned, as the header's functions tell it.
-use Prim.Native.Nat.{ℕ, _-_, _/_, _%_}
+use Prim.Native.Nat.{ℕ, _+_, _-_, _/_, _%_}
 use lib.IntN.{pos, _-ℤ_}
 use mathlib.Core.Bool.{Bool, cond}
 use lib.Dec.{eqb, leb}
 use Rattle.answers.specs.Answers.{Answer, result, refused}
-use Rattle.checks.specs.Checks.{Choice, always, never, both, Which, first, second, Comparison, alike, differ, declined}
+use Rattle.checks.specs.Checks.{Choice, always, never, both, Chosen, Which, first, second, Comparison, alike, differ, declined}
 use Rattle.book.specs.Books.{Counts}
 use Rattle.score.specs.declared.exact.Exact.{Exact}
 
@@ -41,6 +41,10 @@ scoreIn remainder v = record { hundredths = pos v -ℤ pos 10000; remainder = re
 
 unfoldable pub choiceIn : ℕ → Choice
 choiceIn v = cond (eqb v 0) always (cond (eqb v 1) never (both (v / 2048 % 65536) (v / 134217728)))
+
+-- the choice, and how many sets were judged
+unfoldable pub chosenIn : ℕ → Chosen
+chosenIn v = record { choice = choiceIn (v % 8796093022208); judged = v / 8796093022208 + 1 }
 
 -- one of the two listings, by a test for the first
 unfoldable pub whichOf : Bool → Which

@@ -2,23 +2,26 @@
 // Each takes every input, and returns its answer as one number. Only compiling writes the lent words, and only the score's call
 // the lent number.
 ghost use mathlib.Core.Path.{_≡_};
-ghost use Prim.Native.Nat.{_^_, _<_};
+ghost use Prim.Native.Nat.{_+_, _-_, _*_, _^_, _≤_, _<_};
 ghost use lib.ListN.{length};
 ghost use Rattle.layout.specs.Records.{bit};
 ghost use Rattle.layout.specs.Meaning.{faultNumber, faultValue};
 ghost use Rattle.rod.specs.Reading.{rodAnswer};
-ghost use Rattle.checks.specs.Checks.{choice, comparison};
+ghost use Rattle.checks.specs.Checks.{chosen, comparison};
 ghost use Rattle.book.specs.Books.{checked};
 ghost use Rattle.book.specs.Meaning.{reasonNumber};
 ghost use Rattle.score.specs.Decisions.{scoredAnswer};
 ghost use Rattle.compiler.specs.Compiling.{compiled, returned, lentAfter};
-ghost use Rattle.exports.specs.Packing.{asOne, packed, countsValue, ScoreTold, itself, choiceValue, packedComparison};
+ghost use Rattle.exports.specs.Packing.{asOne, packed, countsValue, ScoreTold, itself, chosenValue, packedComparison};
 
 // In a value: the weight of what stands from bit 16 of the number on.
 const FROM_BIT_16: u64 = 2048;
 
 // The same from bit 32 on.
 const FROM_BIT_32: u64 = 134217728;
+
+// And from bit 48 on.
+const FROM_BIT_48: u64 = 8796093022208;
 
 // So far below zero is the lowest score, in hundredths; the value of a score counts from there.
 const BELOW_ZERO: i64 = 10000;
@@ -139,17 +142,25 @@ pub extern "C" fn cerahupo_read(words: &[u32], set: u16) -> u64
     }
 }
 
+// A choice by its value below bit 48, and how many sets were judged.
+fn accepted_choice(value: u64, judged: u32) -> u64
+    requires { ⌜ (value < 2 ^ 43) × (0 < judged) × (judged ≤ 65536) ⌝ }
+    ensures { λ r. ⌜ r ≡ asOne 0 (value + 8796093022208 * (judged - 1)) ⌝ }
+{
+    accepted(value + FROM_BIT_48 * (judged - 1) as u64)
+}
+
 #[no_mangle]
 pub extern "C" fn cerahupo_choice(words: &[u32]) -> u64
-    ensures { λ r. ⌜ r ≡ packed choiceValue (choice (now (words .entry))) ⌝ }
+    ensures { λ r. ⌜ r ≡ packed chosenValue (chosen (now (words .entry))) ⌝ }
 {
     let c = checks::choice(words);
     match c {
-        checks::ChoiceAnswer::Always => accepted(0),
-        checks::ChoiceAnswer::Never => accepted(1),
-        checks::ChoiceAnswer::Both(y, n) => {
+        checks::ChoiceAnswer::Always(judged) => accepted_choice(0, judged),
+        checks::ChoiceAnswer::Never(judged) => accepted_choice(1, judged),
+        checks::ChoiceAnswer::Both(y, n, judged) => {
             let value = 2 + FROM_BIT_16 * y as u64 + FROM_BIT_32 * n as u64;
-            accepted(value)
+            accepted_choice(value, judged)
         }
         checks::ChoiceAnswer::Declined(fault) => refused_listing(fault),
     }

@@ -22,9 +22,10 @@ pub const VALUE_WORDS: usize = 256;
 
 pub type Values = [u64; VALUE_WORDS];
 
-// How many sets a group has, and the last group: its number is that of the six highest signals.
-const GROUP_SETS: u32 = 1024;
+// How many sets a group has.
+pub const GROUP_SETS: u32 = 1024;
 
+// The last group: its number is that of the six highest signals.
 const HIGHEST_GROUP: u32 = 63;
 
 // How many excluded pairs the listing begins with.

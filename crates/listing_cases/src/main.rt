@@ -1,7 +1,7 @@
 // Runs the cases of the listing part: vectors on standard input, one answer a line on standard output.
 //   check W W ..          the verdict on the words
 //   decide S W W ..       the rod's answer on signal set S
-//   choice W W ..         the choice check
+//   choice W W ..         the choice check, and how many sets were judged
 //   compare W .. / W ..   the comparison
 // A line that begins with # is copied.
 use printing::print;
@@ -135,6 +135,21 @@ fn print_comparison(c: checks::ComparisonAnswer) {
     }
 }
 
+fn print_judged(judged: u32) {
+    print(b" judged ");
+    print_number(judged as u64);
+}
+
+fn print_chosen(c: checks::ChoiceAnswer) {
+    print_choice(c);
+    match c {
+        checks::ChoiceAnswer::Always(judged) => print_judged(judged),
+        checks::ChoiceAnswer::Never(judged) => print_judged(judged),
+        checks::ChoiceAnswer::Both(_, _, judged) => print_judged(judged),
+        checks::ChoiceAnswer::Declined(_) => {}
+    }
+}
+
 // The fourth byte tells the commands apart: che-c-k, dec-i-de, cho-i-ce, com-p-are.
 fn run_command(first: u8, fourth: u8, words: &[u32], split: usize)
     requires { ⌜ split ≤ length (now words) ⌝ }
@@ -144,7 +159,7 @@ fn run_command(first: u8, fourth: u8, words: &[u32], split: usize)
     } else if fourth == 112 {
         print_comparison(checks::compare(&words[..split], &words[split..]));
     } else if first == 99 {
-        print_choice(checks::choice(words));
+        print_chosen(checks::choice(words));
     } else if words.len() > 0 {
         print_rod(rod::decide(&words[1..], (words[0] % 65536) as u16));
     }

@@ -43,11 +43,12 @@ fn print_both(yes: u16, no: u16) {
     print_number(no as u64);
 }
 
+// The choice alone, without how many sets were judged.
 pub fn print_choice(c: checks::ChoiceAnswer) {
     match c {
-        checks::ChoiceAnswer::Always => print(b"always"),
-        checks::ChoiceAnswer::Never => print(b"never"),
-        checks::ChoiceAnswer::Both(yes, no) => print_both(yes, no),
+        checks::ChoiceAnswer::Always(_) => print(b"always"),
+        checks::ChoiceAnswer::Never(_) => print(b"never"),
+        checks::ChoiceAnswer::Both(yes, no, _) => print_both(yes, no),
         checks::ChoiceAnswer::Declined(fault) => print_fault(fault),
     }
 }

@@ -22,7 +22,7 @@ printed = A "c 50 < min(p0,p1)\n"
 unfoldable pub halves : String → String
 halves condition = "p mul 100\nr 0 50\nr 1 50\n" ++ condition
 
--- One book in full: its 28 words, and its choice.
+-- One book in full: its 28 words, and its choice, for which sets 0 to 3 are judged.
 full-words : listing printed
     ≡ result
     (16 ∷ 7 ∷ 2 ∷ 5
@@ -35,7 +35,7 @@ full-words : listing printed
 unfolding A printed allCompute
 full-words = refl
 
-full-choice : chooses printed ≡ result (both 3 0)
+full-choice : chooses printed ≡ result (record { choice = both 3 0; judged = 4 })
 unfolding A printed allCompute
 full-choice = refl
 
@@ -113,8 +113,8 @@ pairs-words : listing apart
 unfolding apart allCompute
 pairs-words = refl
 
--- the choice check passes over set 3, on which logger and rod say yes all the same
-pairs-choice : chooses apart & decides apart 3 ≡ result (both 5 0) & W.yes
+-- the choice check passes over set 3, on which logger and rod say yes all the same: of sets 0 to 5 it judges five
+pairs-choice : chooses apart & decides apart 3 ≡ result (record { choice = both 5 0; judged = 5 }) & W.yes
 unfolding apart allCompute
 pairs-choice = refl
 

@@ -7,7 +7,7 @@ use lib.IntN.{ℤ}
 use lib.ListN.{replicate}
 use Rattle.answers.specs.Answers.{Answer, result, onResult}
 use Rattle.rod.specs.Reading.{rodAnswer}
-use Rattle.checks.specs.Checks.{Choice, choice}
+use Rattle.checks.specs.Checks.{Chosen, chosen}
 use Rattle.peal.specs.Policies.{policyAt}
 use Rattle.peal.specs.Score.{policyScore}
 use Rattle.book.specs.Text.{bytes}
@@ -39,9 +39,9 @@ scores book n set = onResult (read (bytes book)) (λ b. result (policyScore set 
 unfoldable pub shows : String → ℕ → Answer Exact
 shows book set = shownAnswer (bytes book) 0 set
 
--- the choice check of the listing
-unfoldable pub chooses : String → Answer Choice
-chooses book = onResult (listing book) choice
+-- the choice check of the listing, with how many sets are judged
+unfoldable pub chooses : String → Answer Chosen
+chooses book = onResult (listing book) chosen
 
 -- both the logger and the rod say yes, or no
 unfoldable pub yes : Answer Bool × Answer Bool

@@ -1,17 +1,22 @@
--- `checks::lowest_difference`: the lowest set from this group on is the lowest of those sought.
-use Prim.Native.Nat.{_-_, _*_, _≤_}
-use mathlib.Core.Path.{_≡_, refl, _∙_}
+-- `checks::lowest_difference`: on no set of the groups before this one the two differ.
+use Prim.Native.Nat.{ℕ, _-_, _*_, _≤_}
+use mathlib.Core.List.{List}
+use mathlib.Core.Option.{none}
+use mathlib.Core.Path.{_≡_, refl, sym, ap, _∙_}
 use native.Mathlib.Omega.{arith}
+use denote.Ref.{now}
 use lib.ListN.{length}
 use borrow.Author.Needs.{needs}
-use Rattle.checks.proofs.Search.{from-zero, found-none, found-set, found-nowhere}
-use Rattle.checks.specs.Checks.{lowestSet, lowestSince, differAt}
+use Rattle.checks.specs.Checks.{lowestFrom, differAt}
+use Rattle.checks.specs.Walking.{foundMeaning}
+use Rattle.checks.proofs.Answers.{differ-group}
+use Rattle.checks.proofs.Search.{none-yet, next-group, in-group, none-at-all}
 use Rattle.checks.proofs.lowest_difference.Statement.{statement}
 use Rattle.checks.proofs.lowest_difference.Tie as tie
 
 abbrev Inv-loop : tie.InvT-loop
 Inv-loop one two pairs others firsts₀ seconds₀ group₀ firsts seconds group =
-    (group ≤ 64) × (length firsts ≡ 256) × (length seconds ≡ 256) × (lowestSince (1024 * group) (differAt one two) ≡ lowestSet (differAt one two))
+    (group ≤ 64) × (length firsts ≡ 256) × (length seconds ≡ 256) × (lowestFrom (1024 * group) 0 (differAt one two) ≡ none)
 
 abbrev μ-loop : tie.MeasureT-loop
 μ-loop one two pairs others firsts₀ seconds₀ group₀ firsts seconds group = 64 - group
@@ -23,15 +28,52 @@ pair-count-requires-2 : tie.Need-pair-count-requires-2 Inv-loop μ-loop
 pair-count-requires-2 c κs = search needs
 
 loop-holds : tie.Need-loop-holds Inv-loop μ-loop
-loop-holds c = (omega arith, refl, refl, from-zero _)
+loop-holds c = (omega arith, refl, refl, none-yet _ _)
 
-difference-in-requires : tie.Need-difference-in-requires Inv-loop μ-loop
-difference-in-requires c κs =
-    let t = c .before .before in
-    let n = t .before .before in
-    let p = n .before .before .before .before .pre in
-    let i = t .before .loop .inv in
-    (((p .0, n .before .pair-count .ensures), (p .1, n .pair-count2 .ensures), omega (arith, t .loop-test .taken)), (i .1, i .2))
+group-barred-requires : tie.Need-group-barred-requires Inv-loop μ-loop
+group-barred-requires c κs = search needs
+
+group-barred-requires-2 : tie.Need-group-barred-requires-2 Inv-loop μ-loop
+group-barred-requires-2 c κs = search needs
+
+reading-requires : tie.Need-reading-requires Inv-loop μ-loop
+reading-requires c κs = search needs
+
+reading-requires-2 : tie.Need-reading-requires-2 Inv-loop μ-loop
+reading-requires-2 c κs = search needs
+
+slice-aggregate-lowest-apart : tie.Need-slice-aggregate-lowest-apart Inv-loop μ-loop
+slice-aggregate-lowest-apart c = search needs
+
+slice-aggregate-lowest-apart-2 : tie.Need-slice-aggregate-lowest-apart-2 Inv-loop μ-loop
+slice-aggregate-lowest-apart-2 c = search needs
+
+slice-aggregate-lowest-apart-3 : tie.Need-slice-aggregate-lowest-apart-3 Inv-loop μ-loop
+slice-aggregate-lowest-apart-3 c = search needs
+
+slice-aggregate-lowest-apart-4 : tie.Need-slice-aggregate-lowest-apart-4 Inv-loop μ-loop
+slice-aggregate-lowest-apart-4 c = search needs
+
+lowest-apart-requires : tie.Need-lowest-apart-requires Inv-loop μ-loop
+lowest-apart-requires c κs = search needs
+
+-- what the readings left
+abbrev left : tie.After-reading Inv-loop μ-loop → List ℕ
+left c = c .reading .last .1 .1 .1 .0
+
+abbrev left₂ : tie.After-reading2 Inv-loop μ-loop → List ℕ
+left₂ c = c .reading2 .last .1 .1 .1 .0
+
+-- the lowest set of the group at hand
+told : (c : tie.After-lowest-apart Inv-loop μ-loop)
+    → let l = c .before .before .before .before .before .before .before .before .before .before .before in
+    let s = l .before .before .before .before .before .before in
+    foundMeaning (c .lowest-apart .result) ≡ lowestFrom 1024 (1024 * l .before .loop .group) (differAt (now (s .args .one)) (now (s .args .two)))
+told c =
+    let r = c .before .before .before .before .before in
+    let f = r .before .before in
+    let b = f .before .before in
+    c .lowest-apart .ensures _ (differ-group _ _ _ (b .before .group-barred .result) (b .group-barred2 .result) (left f) (left₂ r) (b .before .group-barred .ensures) (b .group-barred2 .ensures) (f .reading .ensures .0) (r .reading2 .ensures .0))
 
 enum-told : tie.Need-enum-told Inv-loop μ-loop
 enum-told c = search needs
@@ -41,9 +83,10 @@ enum-told-2 c = search needs
 
 returns : tie.Need-returns Inv-loop μ-loop
 returns c =
-    let f = c .before .before in
-    let t = f .before .before .before in
-    found-set _ _ _ (f .difference-in .ensures .0) _ (c .enum-told2 .given .1) ∙ t .before .loop .inv .3
+    let w = c .before .before in
+    let l = w .before .before .before .before .before .before .before .before .before .before .before in
+    let e = ap foundMeaning (c .enum-told2 .given .1) in
+    e ∙ in-group _ _ (l .before .loop .inv .3) (omega (arith, l .loop-test .taken)) _ (sym (told w) ∙ e)
 
 add-group : tie.Need-add-group Inv-loop μ-loop
 add-group c = search needs
@@ -53,17 +96,17 @@ loop-less c = search needs
 
 loop-again : tie.Need-loop-again Inv-loop μ-loop
 loop-again c =
-    let f = c .before .before in
-    let t = f .before .before .before in
-    let e = f .difference-in .ensures in (
-      omega (arith, t .loop-test .taken),
-      e .1 .0,
-      e .1 .1,
-      found-nowhere _ _ _ (e .0) (c .enum-told .given .1) ∙ t .before .loop .inv .3,
+    let w = c .before .before in
+    let r = w .before .before .before .before .before in
+    let l = r .before .before .before .before .before .before in (
+      omega (arith, l .loop-test .taken),
+      r .before .before .reading .ensures .1,
+      r .reading2 .ensures .1,
+      next-group _ _ (l .before .loop .inv .3) (sym (told w) ∙ ap foundMeaning (c .enum-told .given .1)),
     )
 
 returns-2 : tie.Need-returns-2 Inv-loop μ-loop
-returns-2 c = let l = c .before .loop in found-none _ _ (omega (arith, c .loop-test .left)) ∙ l .inv .3
+returns-2 c = let l = c .before .loop in none-at-all _ _ (l .inv .3) (omega (arith, l .inv .0, c .loop-test .left))
 
 pub lowest-difference-spec : {M : Type 1} → statement M
 lowest-difference-spec =
@@ -74,7 +117,15 @@ lowest-difference-spec =
     pair-count-requires
     pair-count-requires-2
     loop-holds
-    difference-in-requires
+    group-barred-requires
+    group-barred-requires-2
+    reading-requires
+    reading-requires-2
+    slice-aggregate-lowest-apart
+    slice-aggregate-lowest-apart-2
+    slice-aggregate-lowest-apart-3
+    slice-aggregate-lowest-apart-4
+    lowest-apart-requires
     enum-told
     enum-told-2
     returns

@@ -21,7 +21,7 @@ cast-result : tie.Need-cast-result
 cast-result c = omega (arith, below-64 c)
 
 returns : tie.Need-returns
-returns c test w = block-here test _ _ (c .pre .0) w (c .pre .1) (omega arith)
+returns c test w = block-here test _ _ w (c .pre .1) (omega arith)
 
 pub lowest-in-spec : {M : Type 1} → statement M
 lowest-in-spec = tie.close (tie.spec mul-result add-result cast-result returns)

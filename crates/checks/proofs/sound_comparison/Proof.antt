@@ -1,6 +1,6 @@
 -- `checks::sound_comparison`: each answer by the lowest set where the two differ.
 use mathlib.Core.Path.{sym, ap, _∙_}
-use Rattle.checks.specs.Meaning.{foundMeaning}
+use Rattle.checks.specs.Walking.{foundMeaning}
 use Rattle.checks.proofs.Answers.{alike-all, differ-first, differ-second}
 use borrow.Author.Needs.{needs}
 use Rattle.checks.proofs.sound_comparison.Statement.{statement}

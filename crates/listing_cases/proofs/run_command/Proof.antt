@@ -35,8 +35,8 @@ print-comparison-requires c κs = search needs
 choice-requires : tie.Need-choice-requires
 choice-requires c κs = search needs
 
-print-choice-requires : tie.Need-print-choice-requires
-print-choice-requires c κs = search needs
+print-chosen-requires : tie.Need-print-chosen-requires
+print-chosen-requires c κs = search needs
 
 sub-decide : tie.Need-sub-decide
 sub-decide c = search needs
@@ -82,7 +82,7 @@ run-command-spec =
     compare-requires
     print-comparison-requires
     choice-requires
-    print-choice-requires
+    print-chosen-requires
     sub-decide
     part-decide-start
     part-decide-end

@@ -1,0 +1,52 @@
+-- Claimed: one pass over the signal sets, one by one in rising order, which leaves out those with an excluded pair, judges every set
+-- left once, and ends as soon as it has a yes and a no, finds what the choice check finds, and judges as many sets. Proved in
+-- proofs/OnePass.antt.
+use Prim.Native.Nat.{ℕ, zero, suc, _+_}
+use mathlib.Core.Bool.{Bool, true, false, not, cond}
+use mathlib.Core.List.{List}
+use mathlib.Core.Option.{Option, none, some}
+use mathlib.Core.Path.{_≡_}
+use Rattle.answers.specs.Answers.{result, onResult}
+use Rattle.layout.specs.Judgement.{verdict}
+use Rattle.rod.specs.Reading.{says}
+use Rattle.checks.specs.Checks.{permitted, choiceOf, chosen}
+
+-- what the pass has so far: the lowest set with yes and the lowest with no, if there are such, and how many sets were judged
+pub record Pass : Type 0 where
+  pub yes : Option ℕ
+  pub no : Option ℕ
+  pub judged : ℕ
+
+-- nothing yet
+abbrev pub started : Pass
+started = record { yes = none; no = none; judged = 0 }
+
+-- there is a set with yes and one with no
+abbrev pub hasBoth : Option ℕ → Option ℕ → Bool
+hasBoth (some y) (some n) = true
+hasBoth (some y) none = false
+hasBoth none n = false
+
+-- the lowest set with an answer, after one set more, which gives it or does not: the first that gives it stays
+abbrev pub kept : Option ℕ → ℕ → Bool → Option ℕ
+kept (some lowest) set here = some lowest
+kept none set here = cond here (some set) none
+
+-- one set more: left out if it has an excluded pair, and judged if not
+unfoldable pub takeSet : List ℕ → ℕ → Pass → Pass
+takeSet ws set p =
+    let answer = says ws set in
+    cond (permitted ws set) (record { yes = kept (p .yes) set answer; no = kept (p .no) set (not answer); judged = p .judged + 1 }) p
+
+-- the `count` sets from `from` on, until it has both (`later` has a name so that it computes only if needed)
+unfoldable pub passFrom : List ℕ → ℕ → ℕ → Pass → Pass
+passFrom ws zero from p = p
+passFrom ws (suc count) from p =
+    let later = passFrom ws count (from + 1) (takeSet ws from p) in
+    cond (hasBoth (p .yes) (p .no)) p later
+
+-- of any words: they are declined, or the choice check's answer is that of the pass
+abbrev pub OnePass : Type 0
+OnePass =
+    (ws : List ℕ) → let p = passFrom ws 65536 0 started in
+    chosen ws ≡ onResult (verdict ws) (λ u. result (record { choice = choiceOf (p .yes) (p .no); judged = p .judged }))
