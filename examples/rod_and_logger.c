@@ -49,14 +49,15 @@ static void print_choice(uint64_t choice)
 {
     switch (cerahupo_choice_kind(choice)) {
     case CERAHUPO_ALWAYS:
-        printf("choice: always\n");
+        printf("choice: always");
         break;
     case CERAHUPO_NEVER:
-        printf("choice: never\n");
+        printf("choice: never");
         break;
     default:
-        printf("choice: both, yes from set %u, no from set %u\n", cerahupo_lowest_yes(choice), cerahupo_lowest_no(choice));
+        printf("choice: both, yes from set %u, no from set %u", cerahupo_lowest_yes(choice), cerahupo_lowest_no(choice));
     }
+    printf("; sets judged: %" PRIu32 "\n", cerahupo_judged(choice));
 }
 
 /* The score by which the logger decides, with all its decimals. */

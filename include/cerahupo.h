@@ -59,8 +59,10 @@ uint64_t cerahupo_compile(const uint8_t *book, size_t book_length, uint32_t cond
  * the record, which counts from 1. */
 uint64_t cerahupo_read(const uint32_t *words, size_t words_length, uint16_t set);
 
-/* The choice check of a listing over all signal sets that hold no excluded pair of it (without such pairs all 65,536). Result:
- * always, never or both; for both also the lowest yes set and the lowest no set. Refusals: those of cerahupo_read. */
+/* The choice check of a listing over all signal sets that hold no excluded pair of it (without such pairs all 65,536): one pass
+ * in rising order, which ends when it has a yes and a no. Result: always, never or both, for both also the lowest yes set and the
+ * lowest no set; and how many sets were judged: all of those, or for both the ones up to the higher of the two, itself included.
+ * Refusals: those of cerahupo_read. */
 uint64_t cerahupo_choice(const uint32_t *words, size_t words_length);
 
 /* The comparison of two listings, which may overlap, over all signal sets that hold no excluded pair of either. Result: alike,
@@ -83,7 +85,7 @@ static inline unsigned cerahupo_number(uint64_t answer)
 
 static inline bool cerahupo_accepted(uint64_t answer) { return cerahupo_code(answer) == 0; }
 
-/* On a refusal: the line or the record. */
+/* On a refusal: the line or the record; otherwise the result, which the functions below take apart. */
 static inline uint64_t cerahupo_value(uint64_t answer) { return answer >> 5; }
 
 /* On a refusal by cerahupo_compare: 1 or 2, the listing that was declined. */
@@ -102,11 +104,12 @@ static inline int32_t cerahupo_hundredths(uint64_t answer) { return (int32_t)((i
 /* cerahupo_compile: the number of records, 0 on a refusal. A listing has at least one. */
 static inline size_t cerahupo_records(uint64_t answer) { return cerahupo_accepted(answer) ? (size_t)(answer >> 5) : 0; }
 
-/* cerahupo_choice, accepted: which it is, and for both the two sets. */
+/* cerahupo_choice, accepted: which it is; how many sets were judged, 2 to 65,536; and, only for both, the two sets. */
 enum { CERAHUPO_ALWAYS = 0, CERAHUPO_NEVER = 1, CERAHUPO_BOTH = 2 };
 static inline unsigned cerahupo_choice_kind(uint64_t answer) { return (unsigned)(answer >> 5 & 2047); }
 static inline uint16_t cerahupo_lowest_yes(uint64_t answer) { return (uint16_t)(answer >> 16); }
 static inline uint16_t cerahupo_lowest_no(uint64_t answer) { return (uint16_t)(answer >> 32); }
+static inline uint32_t cerahupo_judged(uint64_t answer) { return (uint32_t)(answer >> 48) + 1; }
 
 /* cerahupo_compare: accepted, and alike; where they are not, the set, and 1 or 2, the listing that says yes there. The value
  * itself is 0 for alike; otherwise its lowest eleven bits are 3 where the first listing says yes and 1 where the second does. */

@@ -60,6 +60,14 @@ pub enum Choice {
     Both { yes: u16, no: u16 },
 }
 
+/// What the choice check found, and how many signal sets it judged for that: of those that hold no excluded pair all, or
+/// where there are both answers those up to the higher of the two sets, which is one of them.
+#[derive(Clone, Copy, Debug, PartialEq, Eq)]
+pub struct Chosen {
+    pub choice: Choice,
+    pub judged: u32,
+}
+
 /// One of the two listings that are compared.
 #[derive(Clone, Copy, Debug, PartialEq, Eq)]
 pub enum Listing {
@@ -117,9 +125,22 @@ pub fn read(words: &[u32], set: u16) -> Result<Decision, Refusal> {
     raw::read(words, set).result().map(Decision::told)
 }
 
-/// The choice check of a listing, over all signal sets that hold no excluded pair of it.
-pub fn choice(words: &[u32]) -> Result<Choice, Refusal> {
-    raw::choice(words).result().map(Choice::told)
+/// The choice check of a listing, over all signal sets that hold no excluded pair of it: one pass in rising order, which
+/// ends when it has a yes and a no.
+///
+/// ```
+/// use cerahupo::{Choice, Chosen};
+///
+/// // yes where signals 0 and 2 are present: of sets 0 to 5 each is judged
+/// let found = cerahupo::choice(&[16, 5, 2, 0, 4, 5, 0, 0])?;
+/// assert_eq!(found, Chosen { choice: Choice::Both { yes: 5, no: 0 }, judged: 6 });
+/// // signals 0 and 1 exclude each other: set 3 is passed over
+/// let found = cerahupo::choice(&[5, 3, 0, 2, 16, 5, 3, 0, 4, 5, 0, 0])?;
+/// assert_eq!(found.judged, 5);
+/// # Ok::<(), cerahupo::Refusal>(())
+/// ```
+pub fn choice(words: &[u32]) -> Result<Chosen, Refusal> {
+    raw::choice(words).result().map(Chosen::told)
 }
 
 /// Compares two listings over all signal sets that hold no excluded pair of either.
@@ -183,6 +204,12 @@ impl Choice {
             1 => Choice::Never,
             _ => Choice::Both { yes: set_at(value, 11), no: set_at(value, 27) },
         }
+    }
+}
+
+impl Chosen {
+    fn told(value: u64) -> Chosen {
+        Chosen { choice: Choice::told(value), judged: (value >> 43) as u32 + 1 }
     }
 }
 

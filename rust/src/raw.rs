@@ -72,6 +72,8 @@ pub fn read(words: &[u32], set: u16) -> Told {
     Told(unsafe { library::cerahupo_read(words.as_ptr(), words.len(), set) })
 }
 
+/// The value has which it is in its lowest eleven bits, then sixteen bits each for the lowest yes, the lowest no, and how
+/// many sets were judged, less one.
 pub fn choice(words: &[u32]) -> Told {
     // SAFETY: as above.
     Told(unsafe { library::cerahupo_choice(words.as_ptr(), words.len()) })

@@ -8,7 +8,7 @@ mod single;
 mod timing;
 mod z3;
 
-use cerahupo::{Choice, Comparison, Declined, Refusal};
+use cerahupo::{Choice, Chosen, Comparison, Declined, Refusal};
 use samples::{
     SAMPLE, count_book, exclusions, idle_book, listing, long_listing, many_mentions, mixed, never_book, never_mentions,
     policy, sum_book, vain_book, wide_book,
@@ -160,7 +160,7 @@ fn choice_by_single_sets(table: &Table) {
     walked_choices().iter().for_each(|(name, words)| choice_row(table, name, words, single::choice));
 }
 
-fn choice_row(table: &Table, name: &str, words: &[u32], rust: fn(&[u32]) -> Result<Choice, Refusal>) {
+fn choice_row(table: &Table, name: &str, words: &[u32], rust: fn(&[u32]) -> Result<Chosen, Refusal>) {
     let input = Input { call: "choice", name, size: words.len() / 4, unit: "records" };
     table.row(input, || cerahupo::choice(words), || rust(words));
 }
@@ -230,7 +230,11 @@ fn by_z3(table: &Table) {
     let words = listing(&vain_book());
     let question = z3::yes_question(&words);
     let input = Input { call: "choice", name: "9 of 16 and none of 8: never", size: words.len() / 4, unit: "records" };
-    table.row(input, || cerahupo::choice(&words) != Ok(Choice::Never), || z3::answer(&question));
+    table.row(
+        input,
+        || cerahupo::choice(&words).map(|chosen| chosen.choice) != Ok(Choice::Never),
+        || z3::answer(&question),
+    );
 }
 
 fn z3_comparison(table: &Table, name: &str, one: &str, two: &str) {

@@ -1,8 +1,8 @@
 //! The choice check and the comparison as a loop over single signal sets, written for speed. It tells what it gains to
 //! take many sets at a time.
 
-use crate::optimised::listing::{check, chosen, join, policy_says};
-use cerahupo::{Choice, Comparison, Declined, Listing, Refusal};
+use crate::optimised::listing::{check, choice_of, join, policy_says};
+use cerahupo::{Chosen, Comparison, Declined, Listing, Refusal};
 
 /// A listing made ready for many readings.
 struct Ready {
@@ -60,11 +60,16 @@ impl Ready {
     }
 }
 
-pub fn choice(words: &[u32]) -> Result<Choice, Refusal> {
+pub fn choice(words: &[u32]) -> Result<Chosen, Refusal> {
     let listing = Ready::new(words)?;
     let first = listing.says(0);
-    let other = (1..=u16::MAX).find(|&set| listing.permits(set) && listing.says(set) != first);
-    Ok(chosen(first, other))
+    let mut judged = 1;
+    let other = (1..=u16::MAX).find(|&set| {
+        let permitted = listing.permits(set);
+        judged += u32::from(permitted);
+        permitted && listing.says(set) != first
+    });
+    Ok(Chosen { choice: choice_of(first, other), judged })
 }
 
 pub fn compare(one: &[u32], two: &[u32]) -> Result<Comparison, Declined> {

@@ -2,7 +2,7 @@
 
 use crate::inputs::Inside;
 use crate::{optimised, reference};
-use cerahupo::{Choice, Comparison, Counts, Decision, Declined, Listing, Refusal, Score, raw};
+use cerahupo::{Choice, Chosen, Comparison, Counts, Decision, Declined, Listing, Refusal, Score, raw};
 
 pub fn check(book: &[u8]) -> Result<Counts, Refusal> {
     let expected = reference::check(book);
@@ -58,10 +58,10 @@ pub fn read(words: &[u32], set: u16) -> Result<Decision, Refusal> {
     expected
 }
 
-pub fn choice(words: &[u32]) -> Result<Choice, Refusal> {
+pub fn choice(words: &[u32]) -> Result<Chosen, Refusal> {
     let expected = reference::choice(words);
     assert_eq!(cerahupo::choice(words), expected, "choice of {words:?}");
-    assert_eq!(raw::choice(words).0, number(expected, choice_number));
+    assert_eq!(raw::choice(words).0, number(expected, chosen_number));
     assert_eq!(optimised::choice(words), expected, "optimised choice of {words:?}");
     expected
 }
@@ -91,12 +91,13 @@ fn yes_number(decision: Decision) -> u64 {
     }
 }
 
-fn choice_number(choice: Choice) -> u64 {
-    match choice {
+fn chosen_number(chosen: Chosen) -> u64 {
+    let choice = match chosen.choice {
         Choice::Always => 0,
         Choice::Never => 1,
         Choice::Both { yes, no } => 2 + 2048 * u64::from(yes) + 134_217_728 * u64::from(no),
-    }
+    };
+    choice + 8_796_093_022_208 * (u64::from(chosen.judged) - 1)
 }
 
 fn comparison_number(comparison: Comparison) -> u64 {

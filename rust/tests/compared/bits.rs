@@ -1,6 +1,6 @@
 //! The numbers themselves, written out: the code in bits 0 to 4 and the value from bit 5 on.
 //! Those without an excluded pair are the numbers of the interface that had a refusal of four bits and a bit for the
-//! second listing: none has changed.
+//! second listing: none has changed, but for how many sets the choice check judged, from bit 48 on.
 
 use cerahupo::raw::{self, Told};
 
@@ -28,10 +28,10 @@ fn results() {
     assert_eq!(raw::compile(SAMPLE, 0, &mut words).0, 224);
     assert_eq!(raw::read(&words, 3).0, 32);
     assert_eq!(raw::read(&words, 11).0, 0);
-    assert_eq!(raw::choice(&words).0, 196_672);
-    assert_eq!(raw::choice(&HELD).0, 65_600);
-    assert_eq!(raw::choice(&ALWAYS).0, 0);
-    assert_eq!(raw::choice(&NEVER).0, 32);
+    assert_eq!(raw::choice(&words).0, 844_424_930_328_640);
+    assert_eq!(raw::choice(&HELD).0, 281_474_976_776_256);
+    assert_eq!(raw::choice(&ALWAYS).0, 18_446_462_598_732_840_960);
+    assert_eq!(raw::choice(&NEVER).0, 18_446_462_598_732_840_992);
 }
 
 /// The number of a score, and the remainder that is lent to the call.
@@ -68,8 +68,8 @@ fn results_with_a_pair() {
     assert_eq!(raw::compile(APART_BOOK, 0, &mut [0; 11]).0, 8);
     assert_eq!(raw::decide(APART_BOOK, 0, 3).0, 32);
     assert_eq!(raw::read(&APART, 3).0, 32);
-    assert_eq!(raw::choice(&APART).0, 32);
-    assert_eq!(raw::choice(&TOGETHER).0, 196_672);
+    assert_eq!(raw::choice(&APART).0, 13_834_776_580_305_453_088);
+    assert_eq!(raw::choice(&TOGETHER).0, 844_424_930_328_640);
     assert_eq!(raw::compare(&APART, &NEVER).0, 0);
     assert_eq!(raw::compare(&NEVER, &APART).0, 0);
     assert_eq!(raw::compare(&TOGETHER, &NEVER).0, 196_704);

@@ -20,7 +20,7 @@ fn condition_text(book: &[u8], condition: u32, random: &mut Random) -> Result<St
     for record in words.chunks(4) {
         writeln!(text, "{} {} {} {}", record[0], record[1], record[2], record[3]).expect("a string has room");
     }
-    text += &match agreed::choice(words)? {
+    text += &match agreed::choice(words)?.choice {
         Choice::Always => "always\n".to_string(),
         Choice::Never => "never\n".to_string(),
         Choice::Both { yes, no } => format!("both {yes} {no}\n"),

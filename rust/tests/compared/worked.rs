@@ -3,7 +3,7 @@
 use crate::agreed;
 use crate::inputs::Inside;
 use crate::inputs::random::Random;
-use cerahupo::{Choice, Decision, Decision::No, Decision::Yes, Score};
+use cerahupo::{Choice, Chosen, Decision, Decision::No, Decision::Yes, Score};
 
 const BOOK_A: &str = "p sum 0\nr 0 40\nr 1 30\nr 2 30\np min 100\nr 3 20\n";
 
@@ -30,7 +30,7 @@ fn one_book_in_full() {
     let book = with(BOOK_A, "c 50 < min(p0,p1)");
     let words = listing(&book);
     assert_eq!(words, [16, 7, 2, 5, 4, 5, 0, 3, 4, 3, 0, 4, 4, 6, 0, 0, 19, 8, 6, 7, 4, 8, 0, 0, 2, 0, 0, 0]);
-    assert_eq!(agreed::choice(&words), Ok(Choice::Both { yes: 3, no: 0 }));
+    assert_eq!(agreed::choice(&words), Ok(Chosen { choice: Choice::Both { yes: 3, no: 0 }, judged: 4 }));
 }
 
 #[test]
@@ -65,7 +65,7 @@ fn signals_apart() {
     let book = b"x 0 1\np sum 0\nr 0 40\nr 1 30\nr 2 30\nc 50 < p0\n";
     let words = listing(book);
     assert_eq!(words, [5, 3, 0, 2, 16, 7, 3, 0, 4, 5, 0, 4, 4, 3, 0, 5, 4, 6, 0, 0]);
-    assert_eq!(agreed::choice(&words), Ok(Choice::Both { yes: 5, no: 0 }));
+    assert_eq!(agreed::choice(&words), Ok(Chosen { choice: Choice::Both { yes: 5, no: 0 }, judged: 5 }));
     assert_eq!(say(book, 3), Yes);
 }
 

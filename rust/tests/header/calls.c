@@ -24,7 +24,8 @@ int main(void)
     printf("score %" PRId32, cerahupo_hundredths(cerahupo_score(book, length, 0, 3, &remainder)));
     printf(" and %" PRIu64 "\n", remainder);
     printf("rod %d\n", cerahupo_yes(cerahupo_read(words, 4 * records, 3)));
-    printf("never %d\n", cerahupo_choice_kind(cerahupo_choice(words, 4 * records)) == CERAHUPO_NEVER);
+    uint64_t choice = cerahupo_choice(words, 4 * records);
+    printf("never %d judged %" PRIu32 "\n", cerahupo_choice_kind(choice) == CERAHUPO_NEVER, cerahupo_judged(choice));
     printf("alike %d\n", cerahupo_alike(cerahupo_compare(words, 4 * records, never, 4)));
     return 0;
 }

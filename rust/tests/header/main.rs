@@ -63,6 +63,7 @@ fn expected(number: u64) -> String {
         bits(5, 15),
         bits(16, 31),
         bits(32, 47),
+        bits(48, 63) + 1,
         u64::from(number == 0),
         bits(16, 31),
         if bits(5, 15) == 3 { 1 } else { 2 },
@@ -81,7 +82,7 @@ fn numbers_taken_apart_in_c() {
         state = u64::wrapping_add(u64::wrapping_mul(state, 6_364_136_223_846_793_005), 1_442_695_040_888_963_407);
         numbers.push(state >> (state >> 58));
     }
-    numbers.extend([25, 26, 90, 65_600, 196_672, 327_776, u64::MAX]);
+    numbers.extend([25, 26, 90, 65_600, 844_424_930_328_640, 327_776, u64::MAX]);
     let lines = told(&numbers);
     assert_eq!(lines.len(), numbers.len());
     for (number, line) in numbers.into_iter().zip(lines) {
@@ -96,7 +97,14 @@ fn a_pair_in_c() {
     let output = Command::new(built("calls")).output().expect("the program was compiled");
     let text = String::from_utf8(output.stdout).expect("it prints words and digits");
     let listing = "5 3 0 2 16 3 3 0 4 3 0 0 ";
-    let told =
-        ["1 policies, 1 conditions", "logger 1", "none 7 lent 77", "score 2 and 0", "rod 1", "never 1", "alike 1"];
+    let told = [
+        "1 policies, 1 conditions",
+        "logger 1",
+        "none 7 lent 77",
+        "score 2 and 0",
+        "rod 1",
+        "never 1 judged 49152",
+        "alike 1",
+    ];
     assert_eq!(text.lines().collect::<Vec<_>>(), [&[listing], &told[..]].concat());
 }

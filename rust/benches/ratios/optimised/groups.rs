@@ -3,8 +3,8 @@
 //! A block is 64 neighbouring sets, and bit j of a word stands for set 64 * block + j. A group is 16 blocks. The lowest
 //! six signals tell the sets of a block apart, the next four the blocks of a group, the highest six the groups.
 
-use super::listing::{Record, check, chosen, says};
-use cerahupo::{Choice, Comparison, Declined, Listing, Refusal};
+use super::listing::{Record, check, choice_of, says};
+use cerahupo::{Chosen, Comparison, Declined, Listing, Refusal};
 
 const BLOCKS: usize = 16;
 
@@ -67,6 +67,16 @@ impl<'a> Ready<'a> {
     /// The sets of a group inside which an excluded pair lies.
     fn barred(&self, group: u32) -> Table {
         some_inside(self.pairs, group)
+    }
+
+    /// How many sets of a group are not barred, up to the one of place `last`.
+    fn permitted(&self, barred: &Table, last: u32) -> u32 {
+        if self.pairs.is_empty() {
+            return last + 1;
+        }
+        let (whole, rest) = (last as usize / 64, last % 64);
+        let before: u32 = barred[..whole].iter().map(|word| word.count_zeros()).sum();
+        before + (!barred[whole] << (63 - rest)).count_ones()
     }
 
     /// The sets of a group that give yes. Values that wait are kept on the stack handed in.
@@ -162,23 +172,33 @@ fn spread(table: &mut Table) {
 
 /// The lowest set that the tables have.
 fn lowest(mut table: impl FnMut(u32) -> Table) -> Option<u16> {
-    (0..65_536 / SETS).find_map(|group| {
-        let words = table(group);
-        let block = words.iter().position(|&word| word != 0)?;
-        Some((SETS * group + 64 * block as u32 + words[block].trailing_zeros()) as u16)
-    })
+    (0..65_536 / SETS).find_map(|group| lowest_in(table(group), group))
 }
 
-pub fn choice(words: &[u32]) -> Result<Choice, Refusal> {
+/// The lowest set of a group that its table has.
+fn lowest_in(table: Table, group: u32) -> Option<u16> {
+    let block = table.iter().position(|&word| word != 0)?;
+    Some((SETS * group + 64 * block as u32 + table[block].trailing_zeros()) as u16)
+}
+
+pub fn choice(words: &[u32]) -> Result<Chosen, Refusal> {
     let listing = Ready::new(words)?;
-    let first = says(listing.records, 0);
-    let turned = all_if(first);
     let mut values = Vec::with_capacity(16);
-    let other = lowest(|group| {
-        let other = listing.yes(group, &mut values).map(|yes| yes ^ turned);
-        both(other, listing.barred(group), |other, barred| other & !barred)
-    });
-    Ok(chosen(first, other))
+    let (mut first, mut judged) = (false, 0);
+    for group in 0..65_536 / SETS {
+        let yes = listing.yes(group, &mut values);
+        let barred = listing.barred(group);
+        if group == 0 {
+            first = yes[0] & 1 == 1;
+        }
+        let other = both(yes, barred, |yes, barred| (yes ^ all_if(first)) & !barred);
+        if let Some(set) = lowest_in(other, group) {
+            judged += listing.permitted(&barred, u32::from(set) % SETS);
+            return Ok(Chosen { choice: choice_of(first, Some(set)), judged });
+        }
+        judged += listing.permitted(&barred, SETS - 1);
+    }
+    Ok(Chosen { choice: choice_of(first, None), judged })
 }
 
 pub fn compare(one: &[u32], two: &[u32]) -> Result<Comparison, Declined> {

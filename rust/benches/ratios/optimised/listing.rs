@@ -100,7 +100,7 @@ pub fn policy_says(kind: u32, mask: u32, set: u16, mut lines: impl Iterator<Item
 }
 
 /// The choice, from whether the empty set gives yes and from the lowest set that gives the other answer.
-pub fn chosen(first: bool, other: Option<u16>) -> Choice {
+pub fn choice_of(first: bool, other: Option<u16>) -> Choice {
     match other {
         None if first => Choice::Always,
         None => Choice::Never,

@@ -6,7 +6,7 @@ mod listing;
 mod score;
 mod translation;
 
-use cerahupo::{Choice, Comparison, Counts, Decision, Declined, Listing, Refusal, Score};
+use cerahupo::{Choice, Chosen, Comparison, Counts, Decision, Declined, Listing, Refusal, Score};
 
 pub use translation::{Node, words_of};
 
@@ -59,14 +59,24 @@ pub fn read(words: &[u32], set: u16) -> Result<Decision, Refusal> {
     Ok(decision(listing::take(words)?.tree.says(set)))
 }
 
-pub fn choice(words: &[u32]) -> Result<Choice, Refusal> {
+/// Set by set in rising order, until there is a yes and a no.
+pub fn choice(words: &[u32]) -> Result<Chosen, Refusal> {
     let listing = listing::take(words)?;
-    let lowest = |wanted| (0..=u16::MAX).find(|&set| listing.permits(set) && listing.tree.says(set) == wanted);
-    Ok(match (lowest(true), lowest(false)) {
+    let (mut yes, mut no, mut judged) = (None, None, 0);
+    for set in (0..=u16::MAX).filter(|&set| listing.permits(set)) {
+        judged += 1;
+        let lowest = if listing.tree.says(set) { &mut yes } else { &mut no };
+        lowest.get_or_insert(set);
+        if yes.is_some() && no.is_some() {
+            break;
+        }
+    }
+    let choice = match (yes, no) {
         (Some(yes), Some(no)) => Choice::Both { yes, no },
         (Some(_), None) => Choice::Always,
         (None, _) => Choice::Never,
-    })
+    };
+    Ok(Chosen { choice, judged })
 }
 
 pub fn compare(one: &[u32], two: &[u32]) -> Result<Comparison, Declined> {
