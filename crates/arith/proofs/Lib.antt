@@ -1,5 +1,6 @@
 pub mod Tests
 pub mod Padding
+pub mod Filling
 pub mod Each
 pub mod Keep
 pub mod Counts
