@@ -35,6 +35,7 @@ use Rattle.agreement.specs.Demand3.{CompiledAgreement, ReadingAgreement,
 use Rattle.agreement.proofs.Policies.{signals-fit}
 use Rattle.agreement.proofs.Conditions.{policy-in-range, tree}
 use Rattle.agreement.proofs.Books.{scored-result, book-agreement}
+use Rattle.agreement.proofs.Traverses.{traverse-says}
 use Rattle.agreement.proofs.LineMasks.{masks-minimal}
 use Rattle.compiler.proofs.CompiledLaws.{compiled-from}
 
@@ -128,5 +129,9 @@ demand-3 bytes number lent left answer f ran =
       same = λ set rod logger both.
           let (b, r, l) = compiled-agreement bytes number set n lent e in
           say-same b rod logger (both .reading ∙ ap (λ (ws : List ℕ). rodAnswer (compiledListing n ws) set) (ran .leaving) ∙ r) (both .scoring ∙ l);
+      traverse = λ sets answers returned after equal went.
+          traverse-says bytes number (compiledListing n left) (λ set.
+          let (b, r, l) = compiled-agreement bytes number set n lent e in
+          (b, ap (λ (ws : List ℕ). rodAnswer (compiledListing n ws) set) (ran .leaving) ∙ r, l)) sets answers returned after equal went;
       minimal = subst (λ (ws : List ℕ). MinimalListing bytes number (compiledListing n ws)) (sym (ran .leaving)) (minimal-listing bytes number lent n e);
     }

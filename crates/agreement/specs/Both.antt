@@ -40,7 +40,7 @@ bothSay bytes number set lent =
 abbrev pub leftBy : List ℕ → ℕ → List ℕ → List ℕ
 leftBy bytes number lent = lentAfter lent (compiled bytes number (length lent))
 
--- demand 3 of what was returned and left
+-- demand 3 of one set, of what was returned and left
 abbrev pub Held : List ℕ → ℕ → List ℕ → Both → Type 0
 Held bytes number left (Said n rod logger) = SaySame rod logger × MinimalListing bytes number (compiledListing n left)
 Held bytes number left (Refused r) = Unit {0}

@@ -11,9 +11,11 @@ use Rattle.answers.specs.Answers.{result, onResult}
 use Rattle.layout.specs.Records.{words, records}
 use Rattle.layout.specs.Nodes.{ListedNode, nodes, excluded}
 use Rattle.rod.specs.Reading.{rodAnswer}
-use Rattle.rod.specs.Meaning.{rodMeaning}
+use Rattle.rod.specs.Meaning.{rodMeaning, TraverseRan}
 use Rattle.rod.specs.declared.Decision.{Decision as RodDecision}
 use Rattle.rod.specs.declared.Decision.the-variants.{Yes as RodYes, No as RodNo}
+use Rattle.rod.specs.declared.Traversed.{Traversed}
+use Rattle.rod.specs.declared.Traversed.the-variants.{Answered}
 use Rattle.peal.specs.Policies.{Rule, Policy, MinMax, Condition, Book, policyAt}
 use Rattle.peal.specs.SetsOfRules.{SetInside, IsMinimal, Among, InOrder}
 use Rattle.peal.specs.Having.{has}
@@ -56,6 +58,20 @@ pub data SaySame : RodDecision → LoggerDecision → Type 0 where
   bothYes : SaySame RodYes LoggerYes
   bothNo : SaySame RodNo LoggerNo
 
+-- an answer as a traverse writes it, and the logger's: 1 with yes, 0 with no
+pub data WrittenFor : ℕ → LoggerDecision → Type 0 where
+  oneYes : WrittenFor 1 LoggerYes
+  zeroNo : WrittenFor 0 LoggerNo
+
+-- what is written for a set is what `score::decide` returned for it, and that was no refusal
+abbrev pub AsLogger : List ℕ → (number set written : ℕ) → Type 0
+AsLogger bytes number set written = (logger : LoggerDecision) → scoreMeaning logger ≡ scoredAnswer bytes number set → WrittenFor written logger
+
+-- a traverse refused nothing, and left for each set, in their order, what the logger says
+pub record TraverseSays (bytes : List ℕ) (number : ℕ) (sets : List ℕ) (returned : Traversed) (left : List ℕ) : Type 0 where
+  pub all : returned ≡ Answered (length sets)
+  pub each : Forall₂ (AsLogger bytes number) sets left
+
 -- ---- the lines
 
 -- the mask of a minimal non-empty set of the policy's rules: in sum one whose sum exceeds T, in mul one whose product in units is at most T divided
@@ -92,12 +108,14 @@ pub record MinimalListing (bytes : List ℕ) (number : ℕ) (listing : List ℕ)
 -- ---- the demand
 
 -- compiling returned records, not a refusal; on the compiled listing, the first words as compiling left them, rod and logger say the
--- same of every signal set; and its lines are the minimal non-empty sets
+-- same of every signal set, one by one or in a traverse with as many answers as sets; and its lines are the minimal non-empty sets
 pub record Agreed (bytes : List ℕ) (number : ℕ) (left : List ℕ) (answer : Compiled) : Type 0 where
   pub count : ℕ
   pub compiles : answer ≡ Records count
   pub same : (set : ℕ) (rod : RodDecision) (logger : LoggerDecision)
       → BothRan bytes number set (compiledListing count left) rod logger → SaySame rod logger
+  pub traverse : (sets lent : List ℕ) (returned : Traversed) (answers : List ℕ) → length sets ≡ length lent
+      → TraverseRan (compiledListing count left) sets lent returned answers → TraverseSays bytes number sets returned answers
   pub minimal : MinimalListing bytes number (compiledListing count left)
 
 -- for every accepted book, each condition in it and each lent slice that its listing fits

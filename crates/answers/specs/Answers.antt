@@ -2,7 +2,7 @@
 use Prim.Native.Nat.{ℕ}
 use mathlib.Core.Bool.{Bool, true, false}
 
--- a result, or a refusal: its number in document 01's table, and the value beside it (a line, a record, or 0)
+-- a result, or a refusal: its number (1 to 10 of document 01's table, 11 of change request 6), and the line, record or 0 beside it
 pub data Answer (A : Type 0) : Type 0 where
   result : A → Answer A
   refused : (number value : ℕ) → Answer A

@@ -4,7 +4,7 @@ use lib.IntN.{pos, negsuc}
 use Rattle.answers.specs.Answers.{result, refused}
 use Rattle.layout.specs.Records.{bit}
 use Rattle.checks.specs.Checks.{always, both, differ, declined, first, second}
-use Rattle.exports.specs.Packing.{packed, countsValue, scoreValue, remainderAfter, itself, choiceValue, chosenValue, packedComparison}
+use Rattle.exports.specs.Packing.{packed, countsValue, scoreValue, remainderAfter, itself, answersValue, choiceValue, chosenValue, packedComparison}
 use Rattle.exports.specs.Unpacking.{codeIn, valueIn, ofFirst, numberOf, unpacked, scoreIn, choiceIn, chosenIn, whichOf, comparisonIn}
 
 -- two policies and one condition
@@ -16,6 +16,15 @@ counted = refl
 repeated : packed bit (refused 6 3) ≡ 102
 unfolding packed
 repeated = refl
+
+-- a traverse of three sets, and one whose slices are of unequal length
+three-answers : packed answersValue (result 3) ≡ 96
+unfolding packed answersValue
+three-answers = refl
+
+unequal-told : unpacked itself (packed answersValue (refused 11 0)) ≡ refused 11 0
+unfolding packed unpacked codeIn valueIn ofFirst numberOf
+unequal-told = refl
 
 -- document 01's `both 3 0`: four sets were judged, so 3 stands from bit 48 on
 both-told : packed chosenValue (result (record { choice = both 3 0; judged = 4 })) ≡ 844424930328640

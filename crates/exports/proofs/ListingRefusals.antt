@@ -12,8 +12,9 @@ use Rattle.layout.specs.Judgement.{SoFar, noRecord, keepsLayout, soFarAfter, ju
 use Rattle.layout.specs.Steps.{recordsFrom}
 use Rattle.layout.proofs.Places.{from-nil}
 use Rattle.rod.specs.Reading.{rodAnswer}
+use Rattle.rod.specs.Traversing.{traversed, answerCount}
 use Rattle.checks.specs.Checks.{choice, chosen, lowestSet, Comparison, alike, differ, declined, first, second, differAt, comparisonOf, examined, comparison}
-use Rattle.exports.proofs.Refusals.{InTable, Refuses, never, by, tried, on-result}
+use Rattle.exports.proofs.Refusals.{InTable, Refuses, never, by, tried, widened, on-result}
 
 records-few : (ws : List ℕ) → length (records ws) ≤ length ws / 4
 unfolding recordsFrom
@@ -34,6 +35,13 @@ module _ (ws : List ℕ) where
   pub rod-reading : (set : ℕ) → Refuses 9 10 (length ws / 4) (rodAnswer ws set)
   unfolding rodAnswer
   rod-reading set = on-result verdicts (λ u. never _)
+
+  pub traversing : (sets lent : List ℕ) → Refuses 9 11 (length ws / 4) (answerCount (traversed ws sets lent))
+  unfolding traversed answerCount
+  traversing sets lent =
+      on-result
+      (tried (eqb (length sets) (length lent)) (omega arith) (λ _. on-result (widened (omega arith) verdicts) (λ u. never _)))
+      (λ answers. never _)
 
   pub choosing : Refuses 9 10 (length ws / 4) (chosen ws)
   unfolding chosen choice

@@ -1,5 +1,5 @@
 -- The number that a call returns tells its whole answer.
-use Prim.Native.Nat.{ℕ, _+_, _-_, _*_, _/_, _%_, _≤_, _<_}
+use Prim.Native.Nat.{ℕ, _+_, _-_, _*_, _/_, _%_, _^_, _≤_, _<_}
 use mathlib.Core.Bool.{Bool, true, false, cond}
 use mathlib.Core.List.{List}
 use mathlib.Core.Path.{_≡_, refl, sym, ap, subst, _∙_}
@@ -11,19 +11,20 @@ use borrow.Author.Tests.{le-leb, lt-leb, ne-eqb}
 use Rattle.answers.specs.Answers.{Answer, result, refused}
 use Rattle.layout.specs.Records.{bit}
 use Rattle.rod.specs.Reading.{rodAnswer}
+use Rattle.rod.specs.Traversing.{traversed, answerCount}
 use Rattle.checks.specs.Checks.{Choice, always, never, both, Chosen, chosen, Comparison, alike, differ, declined, first, second, comparison}
 use Rattle.book.specs.Books.{Counts, checked}
 use Rattle.score.specs.Decisions.{scoredAnswer}
 use Rattle.score.specs.Shown.{shownAnswer}
 use Rattle.score.specs.declared.exact.Exact.{Exact}
 use Rattle.compiler.specs.Compiling.{compiled, returned}
-use Rattle.exports.specs.Packing.{asOne, ofSecond, packed, countsValue, scoreValue, remainderAfter, itself, choiceValue, chosenValue, packedComparison}
+use Rattle.exports.specs.Packing.{asOne, ofSecond, packed, countsValue, scoreValue, remainderAfter, itself, answersValue, choiceValue, chosenValue, packedComparison}
 use Rattle.exports.specs.Unpacking.{codeIn, valueIn, ofFirst, numberOf, unpacked, countsIn, yesIn, scoreIn, choiceIn, chosenIn, whichOf, differenceIn, comparisonIn}
 use Rattle.exports.specs.NothingLost.{NothingLost}
 use Rattle.exports.proofs.Refusals.{Refuses, in-table}
 use Rattle.exports.proofs.BookRefusals.{checking, deciding, scoring, compiling}
-use Rattle.exports.proofs.ListingRefusals.{rod-reading, choosing, Declines, comparing}
-use Rattle.exports.proofs.Results.{counts-small, hundredths-natural, NamesSets, ChosenFits, chosen-fits}
+use Rattle.exports.proofs.ListingRefusals.{rod-reading, traversing, choosing, Declines, comparing}
+use Rattle.exports.proofs.Results.{counts-small, hundredths-natural, answers-counted, NamesSets, ChosenFits, chosen-fits}
 
 -- ---- the parts of a number
 
@@ -88,6 +89,12 @@ score-again bytes number set lent x e =
     ap (λ (z : ℤ). pos (natAbs z) -ℤ pos 10000) counted ∙ ap (λ (z : ℤ). z -ℤ pos 10000) (sym counted) ∙ +ℤ-negℤ-cancel (x .hundredths) (pos 10000) in
     subst (λ (a : Answer Exact). scoreIn (remainderAfter lent a) (scoreValue x) ≡ x) e (rw back refl)
 
+-- as many answers as sets, fewer than 2 to the 59
+answers-again : (words sets lent : List ℕ) → length sets < 2 ^ 59 → (n : ℕ) → result n ≡ answerCount (traversed words sets lent)
+    → itself (answersValue n) ≡ n
+unfolding answersValue
+answers-again words sets lent few n e = omega (arith, answers-counted words sets lent n e)
+
 choice-again : (c : Choice) → NamesSets c → choiceIn (choiceValue c) ≡ c
 unfolding choiceIn choiceValue
 choice-again always h = refl
@@ -145,6 +152,7 @@ nothing-lost =
       score = λ book condition set lent. told-again scoreValue _ (omega arith) (omega arith) (shownAnswer book condition set) (scoring book condition set) (score-again book condition set lent);
       compile = λ book condition lent. told-again itself itself (omega arith) (omega arith) (returned (compiled book condition lent)) (compiling book condition lent) (λ n e. refl);
       read = λ words set. told-again bit yesIn (omega arith) (omega arith) (rodAnswer words set) (rod-reading words set) (λ b e. yes-again b);
+      traverse = λ words sets answers few. told-again answersValue itself (omega arith) (omega arith) (answerCount (traversed words sets answers)) (traversing words sets answers) (answers-again words sets answers few);
       choose = λ words. told-again chosenValue chosenIn (omega arith) (omega arith) (chosen words) (choosing words) (λ c e. chosen-again c (chosen-fits words c e));
       compare = λ one two. compared-again (length one / 4) (length two / 4) (comparison one two) (comparing one two);
     }

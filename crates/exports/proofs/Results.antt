@@ -3,10 +3,11 @@ use Prim.Native.Nat.{ℕ, suc, _+_, _-_, _≤_, _<_}
 use mathlib.Core.Bool.{true, false, _&&_}
 use mathlib.Core.List.{List}
 use mathlib.Core.Option.{Option, none, some}
-use mathlib.Core.Path.{_≡_, refl, sym, ap, subst}
+use mathlib.Core.Path.{_≡_, refl, sym, ap, subst, _∙_}
 use native.Mathlib.Omega.{arith}
 use lib.Dec.{leb}
 use lib.IntN.{ℤ, pos, negsuc, _+ℤ_}
+use lib.ListN.{length}
 use lib.Signed.{leZ}
 use borrow.Author.Tests.{leb-true, le-ltb}
 use Rattle.answers.specs.Answers.{result}
@@ -14,6 +15,8 @@ use Rattle.answers.proofs.Results.{result-is, gone-on}
 use Rattle.arith.proofs.Counts.{count-le, count-some}
 use Rattle.arith.proofs.Tests.{and-left, and-right}
 use Rattle.layout.specs.Judgement.{verdict}
+use Rattle.rod.specs.Traversing.{traversed, answerCount}
+use Rattle.rod.proofs.Traverses.{as-many, answers-given}
 use Rattle.checks.specs.Checks.{permitted, gives, Choice, always, never, both, choiceOf, choice, judgedEnd, judgedSets, Chosen, chosen}
 use Rattle.checks.proofs.Pairs.{permitted-zero}
 use Rattle.checks.proofs.Search.{LowestIs, lowest-is}
@@ -43,6 +46,15 @@ hundredths-natural bytes number set x h = go (x .hundredths) (shown-tells .range
     go (negsuc z) e =
         let l = leb-true z 9999 (and-left (leb z 9999) true e) in
         (10000 - suc z, rw (le-ltb 10000 (suc z) (omega arith)), omega arith)
+
+-- ---- a traverse
+
+-- as many answers as sets
+pub answers-counted : (ws sets lent : List ℕ) (n : ℕ) → result n ≡ answerCount (traversed ws sets lent) → n ≡ length sets
+unfolding answerCount
+answers-counted ws sets lent n h =
+    let (answers, e, counted) = gone-on (traversed ws sets lent) _ n (sym h) in
+    sym (result-is counted) ∙ ap length (sym (answers-given ws sets lent answers e .1)) ∙ as-many ws sets
 
 -- ---- the choice check
 

@@ -1,7 +1,7 @@
 -- An answer as the one number that a call returns: bits 0 to 4 hold a code, the bits from 5 on hold the value.
--- The code is 0 where the call was accepted, and else the refusal's number, of which there is room for 1 to 20;
+-- The code is 0 where the call was accepted, and else the refusal's number: 1 to 11 today, and there is room up to 20;
 -- the refusals 9 and 10 of the second listing of a comparison have the codes 25 and 26.
-use Prim.Native.Nat.{ℕ, _+_, _-_, _*_}
+use Prim.Native.Nat.{ℕ, _+_, _-_, _*_, _%_, _^_}
 use mathlib.Core.List.{List}
 use mathlib.Core.Path.{_≡_}
 use lib.IntN.{pos, natAbs, _+ℤ_}
@@ -46,6 +46,10 @@ pub record ScoreTold (bytes : List ℕ) (condition set lent returned left : ℕ)
 -- compiling: the number of records itself
 abbrev pub itself : ℕ → ℕ
 itself n = n
+
+-- a traverse: the number of answers, modulo 2 to the 59, since 59 bits are left for it
+unfoldable pub answersValue : ℕ → ℕ
+answersValue n = n % 2 ^ 59
 
 -- the choice check: which it is, and for both from bit 16 on the lowest set that gives yes, from bit 32 on the lowest that gives no
 unfoldable pub choiceValue : Choice → ℕ

@@ -1,18 +1,19 @@
 // The calls for programs in C or Rust that link this code; include/cerahupo.h is their header.
-// Each takes every input, and returns its answer as one number. Only compiling writes the lent words, and only the score's call
-// the lent number.
+// Each takes every input, and returns its answer as one number. Only compiling writes the lent words, only the score's call the
+// lent number, and only a traverse the lent answers.
 ghost use mathlib.Core.Path.{_≡_};
 ghost use Prim.Native.Nat.{_+_, _-_, _*_, _^_, _≤_, _<_};
 ghost use lib.ListN.{length};
 ghost use Rattle.layout.specs.Records.{bit};
 ghost use Rattle.layout.specs.Meaning.{faultNumber, faultValue};
 ghost use Rattle.rod.specs.Reading.{rodAnswer};
+ghost use Rattle.rod.specs.Traversing.{traversed, answerCount, answersAfter};
 ghost use Rattle.checks.specs.Checks.{chosen, comparison};
 ghost use Rattle.book.specs.Books.{checked};
 ghost use Rattle.book.specs.Meaning.{reasonNumber};
 ghost use Rattle.score.specs.Decisions.{scoredAnswer};
 ghost use Rattle.compiler.specs.Compiling.{compiled, returned, lentAfter};
-ghost use Rattle.exports.specs.Packing.{asOne, packed, countsValue, ScoreTold, itself, chosenValue, packedComparison};
+ghost use Rattle.exports.specs.Packing.{asOne, packed, countsValue, ScoreTold, itself, answersValue, chosenValue, packedComparison};
 
 // In a value: the weight of what stands from bit 16 of the number on.
 const FROM_BIT_16: u64 = 2048;
@@ -22,6 +23,9 @@ const FROM_BIT_32: u64 = 134217728;
 
 // And from bit 48 on.
 const FROM_BIT_48: u64 = 8796093022208;
+
+// Beyond every value: 2 to the 59.
+const VALUE_END: u64 = 576460752303423488;
 
 // So far below zero is the lowest score, in hundredths; the value of a score counts from there.
 const BELOW_ZERO: i64 = 10000;
@@ -139,6 +143,24 @@ pub extern "C" fn cerahupo_read(words: &[u32], set: u16) -> u64
         rod::Decision::Yes => accepted(1),
         rod::Decision::No => accepted(0),
         rod::Decision::Declined(fault) => refused_listing(fault),
+    }
+}
+
+#[no_mangle]
+pub extern "C" fn cerahupo_traverse(words: &[u32], sets: &[u16], answers: &mut [u8]) -> u64
+    ensures { λ r. ⌜ r ≡ packed answersValue (answerCount
+        (traversed (now (words .entry)) (now (sets .entry)) (now (answers .entry)))) ⌝ }
+    ensures { λ r. ⌜ now (answers .exit) ≡ answersAfter (now (answers .entry))
+        (traversed (now (words .entry)) (now (sets .entry)) (now (answers .entry))) ⌝ }
+{
+    let t = rod::traverse(words, sets, answers);
+    match t {
+        rod::Traversed::Answered(n) => {
+            let value = n as u64 % VALUE_END;
+            accepted(value)
+        }
+        rod::Traversed::Unequal => refused(11, 0),
+        rod::Traversed::Declined(fault) => refused_listing(fault),
     }
 }
 

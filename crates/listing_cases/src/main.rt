@@ -3,16 +3,24 @@
 //   decide S W W ..       the rod's answer on signal set S
 //   choice W W ..         the choice check, and how many sets were judged
 //   compare W .. / W ..   the comparison
+//   traverse N S .. / W ..   a traverse with N lent answers, 7 each, on the sets S: what it returned, and the answers it left
 // A line that begins with # is copied.
 use printing::print;
 use printing::print_choice;
 use printing::print_fault;
 use printing::print_number;
+use printing::print_refused;
 use printing::print_rod;
 use vectors::line_end;
 ghost use Prim.Native.Nat.{_≤_};
 ghost use mathlib.Core.Path.{_≡_};
 ghost use lib.ListN.{length};
+
+// At most so many numbers of a line are taken, and at most so many answers are lent.
+const ROOM: usize = 512;
+
+// What each lent answer holds before the call.
+const LENT: u8 = 7;
 
 // Numbers of a line read so far: the one being read, how many are stored, and how many stood before the `/`.
 pub struct Scan {
@@ -150,7 +158,75 @@ fn print_chosen(c: checks::ChoiceAnswer) {
     }
 }
 
-// The fourth byte tells the commands apart: che-c-k, dec-i-de, cho-i-ce, com-p-are.
+fn print_traversed(t: rod::Traversed) {
+    match t {
+        rod::Traversed::Answered(n) => {
+            print(b"answered ");
+            print_number(n as u64);
+        }
+        rod::Traversed::Unequal => print_refused(11, 0),
+        rod::Traversed::Declined(fault) => print_fault(fault),
+    }
+}
+
+fn print_left(answers: &[u8]) {
+    print(b" left");
+    let mut i = 0;
+    while i < answers.len() {
+        print(b" ");
+        let answer = answers[i];
+        print_number(answer as u64);
+        i += 1;
+    }
+}
+
+// The sets of a vector, one for each place.
+fn put_sets(numbers: &[u32], sets: &mut [u16])
+    requires { ⌜ length (now sets) ≤ length (now numbers) ⌝ }
+    ensures { λ r. ⌜ length (now (sets .exit)) ≡ length (now (sets .entry)) ⌝ }
+{
+    let mut i = 0;
+    while i < sets.len() {
+        let number = numbers[i];
+        sets[i] = (number % 65536) as u16;
+        i += 1;
+    }
+}
+
+fn run_sets(numbers: &[u32], words: &[u32], sets: &mut [u16], answers: &mut [u8])
+    requires { ⌜ length (now sets) ≤ length (now numbers) ⌝ }
+{
+    put_sets(numbers, sets);
+    print_traversed(rod::traverse(words, sets, answers));
+    print_left(answers);
+}
+
+// The first number is how many answers are lent, the others are the sets.
+fn run_traverse(numbers: &[u32], words: &[u32]) {
+    let count = numbers.len();
+    if count == 0 {
+        return;
+    }
+    if count > ROOM {
+        return;
+    }
+    let first = numbers[0];
+    let lent = first as usize;
+    if lent > ROOM {
+        return;
+    }
+    let asked = count - 1;
+    let mut sets = [0u16; ROOM];
+    let mut answers = [LENT; ROOM];
+    run_sets(
+        &numbers[1..],
+        words,
+        &mut sets[..asked],
+        &mut answers[..lent],
+    );
+}
+
+// The fourth byte tells the commands apart: che-c-k, dec-i-de, cho-i-ce, com-p-are, tra-v-erse.
 fn run_command(first: u8, fourth: u8, words: &[u32], split: usize)
     requires { ⌜ split ≤ length (now words) ⌝ }
 {
@@ -158,6 +234,8 @@ fn run_command(first: u8, fourth: u8, words: &[u32], split: usize)
         print_verdict(layout::check(words));
     } else if fourth == 112 {
         print_comparison(checks::compare(&words[..split], &words[split..]));
+    } else if fourth == 118 {
+        run_traverse(&words[..split], &words[split..]);
     } else if first == 99 {
         print_chosen(checks::choice(words));
     } else if words.len() > 0 {
@@ -185,7 +263,7 @@ fn run_line(line: &[u8]) {
         print(b"\n");
         return;
     }
-    let mut space = [0u32; 512];
+    let mut space = [0u32; ROOM];
     run_stored(line, &mut space);
 }
 

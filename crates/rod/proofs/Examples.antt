@@ -1,9 +1,10 @@
--- Computed examples of the rod's reading.
+-- Computed examples of the rod's reading, and of traverses.
 use mathlib.Core.Bool.{true, false}
 use mathlib.Core.List.{[], _∷_}
 use mathlib.Core.Path.{_≡_, refl}
 use Rattle.answers.specs.Answers.{result, refused}
 use Rattle.rod.specs.Reading.{rodAnswer}
+use Rattle.rod.specs.Traversing.{traversed, answerCount, answersAfter}
 use Rattle.rod.specs.Computing.{rodComputes}
 
 -- the mask shares no signal with the set: quiet, also where turned is 1
@@ -56,3 +57,34 @@ declined-record = refl
 past-a-pair : rodAnswer (5 ∷ 3 ∷ 0 ∷ 2 ∷ 16 ∷ 3 ∷ 3 ∷ 0 ∷ 4 ∷ 3 ∷ 0 ∷ 0 ∷ []) 3 ≡ result true
 unfolding rodComputes
 past-a-pair = refl
+
+-- ---- a whole traverse
+
+-- by the lines 3 and 4: an answer for each set, in their order; a set that comes again is answered again
+answers-in-order : traversed (16 ∷ 7 ∷ 2 ∷ 0 ∷ 4 ∷ 3 ∷ 0 ∷ 3 ∷ 4 ∷ 4 ∷ 0 ∷ 0 ∷ []) (3 ∷ 0 ∷ 4 ∷ 1 ∷ 3 ∷ []) (9 ∷ 9 ∷ 9 ∷ 9 ∷ 9 ∷ [])
+    ≡ result (1 ∷ 0 ∷ 1 ∷ 0 ∷ 1 ∷ [])
+unfolding rodComputes
+answers-in-order = refl
+
+-- slices of unequal length, by a sound listing and by no words at all
+one-answer-too-few : traversed (17 ∷ 0 ∷ 0 ∷ 0 ∷ []) (3 ∷ 0 ∷ []) (9 ∷ []) ≡ refused 11 0
+unfolding rodComputes
+one-answer-too-few = refl
+
+unequal-first : traversed [] (3 ∷ 0 ∷ []) (9 ∷ 9 ∷ 9 ∷ []) ≡ refused 11 0
+unfolding rodComputes
+unequal-first = refl
+
+-- no sets: none is answered, and the listing is examined all the same
+no-sets : answerCount (traversed (17 ∷ 0 ∷ 0 ∷ 0 ∷ []) [] []) ≡ result 0
+unfolding rodComputes
+no-sets = refl
+
+no-sets-declined : traversed (17 ∷ 0 ∷ 0 ∷ 2 ∷ []) [] [] ≡ refused 10 1
+unfolding rodComputes
+no-sets-declined = refl
+
+-- a declined listing leaves the lent answers
+lent-kept : answersAfter (9 ∷ 8 ∷ []) (traversed (17 ∷ 0 ∷ 0 ∷ []) (3 ∷ 0 ∷ []) (9 ∷ 8 ∷ [])) ≡ (9 ∷ 8 ∷ [])
+unfolding rodComputes
+lent-kept = refl

@@ -2,7 +2,8 @@
 use Rattle.arith.specs.Trees.{taken, run}
 use Rattle.layout.specs.Computing.{layoutComputes}
 use Rattle.rod.specs.Reading.{someLine, policyValue, joined, remaining, reading, says, rodAnswer}
+use Rattle.rod.specs.Traversing.{answersTo, traversed, answerCount, answersAfter}
 
 unfoldable pub rodComputes : Unit {0}
-unfolding layoutComputes taken run someLine policyValue joined remaining reading says rodAnswer
+unfolding layoutComputes taken run someLine policyValue joined remaining reading says rodAnswer answersTo traversed answerCount answersAfter
 rodComputes = tt

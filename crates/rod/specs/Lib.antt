@@ -1,4 +1,6 @@
 pub mod Reading
+pub mod Traversing
+pub mod SingleCalls
 pub mod Meaning
 pub mod Values
 pub mod Computing

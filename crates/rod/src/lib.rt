@@ -1,5 +1,5 @@
-// The rod: what a listing says of a signal set. It knows the listing part and nothing of books.
-// `decide` is for every caller; `reading` and `next_index` are for the crates above.
+// The rod: what a listing says of a signal set, or of each set of a traverse. It knows the listing part and nothing of books.
+// `decide` and `traverse` are for every caller; `reading` and `next_index` are for the crates above.
 ghost use mathlib.Core.Bool.{Bool};
 ghost use mathlib.Core.List.{List, _∷_};
 ghost use mathlib.Core.Path.{_≡_};
@@ -11,7 +11,8 @@ ghost use Rattle.layout.specs.Judgement.{verdict};
 ghost use Rattle.layout.specs.Nodes.{leadingLines};
 ghost use Rattle.layout.specs.Steps.{recordsFrom};
 ghost use Rattle.rod.specs.Reading.{someLine, policyValue, joined, says, rodAnswer};
-ghost use Rattle.rod.specs.Meaning.{rodMeaning};
+ghost use Rattle.rod.specs.Traversing.{answersTo};
+ghost use Rattle.rod.specs.Meaning.{rodMeaning, TraverseRan};
 ghost use Rattle.rod.specs.Values.{bitsOf, joinMeaning, lineAt, AllSets, policyAt, nodeEnd, NodeAt, Underway};
 
 // The line at index i, a signal set, lies wholly inside the set.
@@ -156,5 +157,44 @@ pub fn decide(words: &[u32], set: u16) -> Decision
             }
         }
         layout::Verdict::Declined(fault) => Decision::Declined(fault),
+    }
+}
+
+// Writes what the sound listing says of each set: 1 for yes, 0 for no.
+fn answer_all(words: &[u32], sets: &[u16], answers: &mut [u8])
+    requires { ⌜ (verdict (now words) ≡ result tt) × (length (now sets) ≡ length (now answers)) ⌝ }
+    ensures { λ r. ⌜ now (answers .exit) ≡ answersTo (now (words .entry)) (now (sets .entry)) ⌝ }
+{
+    let mut i: usize = 0;
+    while i < sets.len() {
+        answers[i] = reading(words, sets[i]) as u8;
+        i += 1;
+    }
+}
+
+// What a traverse returns.
+pub enum Traversed {
+    // So many answers were written, one for each set.
+    Answered(usize),
+    // The answers lent are not as many as the sets.
+    Unequal,
+    // The listing was declined.
+    Declined(layout::Fault),
+}
+
+pub fn traverse(words: &[u32], sets: &[u16], answers: &mut [u8]) -> Traversed
+    ensures { λ r. ⌜ TraverseRan (now (words .entry)) (now (sets .entry)) (now (answers .entry))
+        r (now (answers .exit)) ⌝ }
+{
+    if sets.len() != answers.len() {
+        return Traversed::Unequal;
+    }
+    let v = layout::check(words);
+    match v {
+        layout::Verdict::Sound => {
+            answer_all(words, sets, answers);
+            Traversed::Answered(sets.len())
+        }
+        layout::Verdict::Declined(fault) => Traversed::Declined(fault),
     }
 }

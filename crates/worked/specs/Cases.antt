@@ -8,7 +8,7 @@ use Rattle.answers.specs.Answers.{result}
 use Rattle.checks.specs.Checks.{both}
 use Rattle.peal.specs.Score.{scaled}
 use Rattle.worked.specs.Computing as W
-use Rattle.worked.specs.Computing.{listing, decides, scores, shows, chooses, _&_, allCompute}
+use Rattle.worked.specs.Computing.{listing, decides, scores, shows, chooses, traverses, _&_, allCompute}
 
 -- book A with the condition given
 unfoldable pub A : String → String
@@ -172,6 +172,13 @@ zero-is-a-line = refl
 no-rules : listing "p sum 0\nc -1 < p0\n" & listing "p mul 100\nc 100 >= p0\n" ≡ result (17 ∷ 0 ∷ 0 ∷ 0 ∷ []) & result (17 ∷ 0 ∷ 0 ∷ 0 ∷ [])
 unfolding allCompute
 no-rules = refl
+
+-- ---- change request 6: a whole traverse
+
+-- cases a, b and c together, then a set that holds three lines, one that holds none, and case a again
+whole-traverse : traverses printed (3 ∷ 0 ∷ 11 ∷ 7 ∷ 4 ∷ 3 ∷ []) ≡ result (1 ∷ 0 ∷ 0 ∷ 1 ∷ 0 ∷ 1 ∷ [])
+unfolding A printed allCompute
+whole-traverse = refl
 
 -- ---- change request 12: same lines, same policy
 

@@ -4,9 +4,10 @@ use Prim.Native.String.{String}
 use mathlib.Core.Bool.{Bool}
 use mathlib.Core.List.{List}
 use lib.IntN.{ℤ}
-use lib.ListN.{replicate}
+use lib.ListN.{length, replicate}
 use Rattle.answers.specs.Answers.{Answer, result, onResult}
 use Rattle.rod.specs.Reading.{rodAnswer}
+use Rattle.rod.specs.Traversing.{traversed}
 use Rattle.checks.specs.Checks.{Chosen, chosen}
 use Rattle.peal.specs.Policies.{policyAt}
 use Rattle.peal.specs.Score.{policyScore}
@@ -30,6 +31,10 @@ listing book =
 -- the scored decision of condition 0 on a set, and the rod's answer on its listing
 unfoldable pub decides : String → ℕ → Answer Bool × Answer Bool
 decides book set = (scoredAnswer (bytes book) 0 set, onResult (listing book) (λ ws. rodAnswer ws set))
+
+-- the answers of a traverse by the listing, with as many lent as there are sets
+unfoldable pub traverses : String → List ℕ → Answer (List ℕ)
+traverses book sets = onResult (listing book) (λ ws. traversed ws sets (replicate (length sets) 7))
 
 -- the score of a policy on a set
 unfoldable pub scores : String → ℕ → ℕ → Answer ℤ
@@ -57,5 +62,5 @@ a & b = (a, b)
 
 -- no meaning: a case that computes with all definitions says `unfolding allCompute`
 unfoldable pub allCompute : Unit {0}
-unfolding checksCompute scoreComputes compilerComputes listing decides scores shows chooses yes no
+unfolding checksCompute scoreComputes compilerComputes listing decides traverses scores shows chooses yes no
 allCompute = tt

@@ -32,6 +32,24 @@ compare-requires c κs = search needs
 print-comparison-requires : tie.Need-print-comparison-requires
 print-comparison-requires c κs = search needs
 
+slice-aggregate-run-traverse : tie.Need-slice-aggregate-run-traverse
+slice-aggregate-run-traverse c = simp length-take (omega arith)
+
+mul-run-traverse : tie.Need-mul-run-traverse
+mul-run-traverse c = search needs
+
+sub-run-traverse : tie.Need-sub-run-traverse
+sub-run-traverse c = search needs
+
+part-run-traverse-start : tie.Need-part-run-traverse-start
+part-run-traverse-start c = search needs
+
+part-run-traverse-end : tie.Need-part-run-traverse-end
+part-run-traverse-end c = search needs
+
+run-traverse-requires : tie.Need-run-traverse-requires
+run-traverse-requires c κs = search needs
+
 choice-requires : tie.Need-choice-requires
 choice-requires c κs = search needs
 
@@ -81,6 +99,12 @@ run-command-spec =
     part-compare-end
     compare-requires
     print-comparison-requires
+    slice-aggregate-run-traverse
+    mul-run-traverse
+    sub-run-traverse
+    part-run-traverse-start
+    part-run-traverse-end
+    run-traverse-requires
     choice-requires
     print-chosen-requires
     sub-decide

@@ -1,0 +1,90 @@
+-- `exports::cerahupo_traverse`: what a traverse returns, packed, and the answers as it left them.
+use mathlib.Core.Path.{_≡_, sym, ap, _∙_}
+use native.Mathlib.Omega.{arith}
+use borrow.Author.Needs.{needs}
+use denote.Ref.{now}
+use Rattle.rod.specs.Traversing.{traversed, answerCount}
+use Rattle.rod.specs.Meaning.{traverseMeaning}
+use Rattle.rod.specs.declared.Traversed.{Traversed}
+use Rattle.exports.specs.Packing.{packed, answersValue}
+use Rattle.exports.proofs.Refusals.{in-table}
+use Rattle.exports.proofs.ListingRefusals.{traversing}
+use Rattle.exports.proofs.cerahupo_traverse.Statement.{statement}
+use Rattle.exports.proofs.cerahupo_traverse.Tie as tie
+
+traverse-requires : tie.Need-traverse-requires
+traverse-requires c κs = search needs
+
+-- the answer in an arm is the definition's
+answer : (c : tie.After-traverse) (v : Traversed) → c .traverse .result ≡ v → let s = c .before .before .before .before .before in
+    traverseMeaning v ≡ answerCount (traversed (now (s .args .words)) (now (s .args .sets)) (now (s .args .answers)))
+answer c v e = sym (ap traverseMeaning e) ∙ c .traverse .ensures .returning
+
+enum-known-t : tie.Need-enum-known-t
+enum-known-t c = search needs
+
+accepted-requires : tie.Need-accepted-requires
+accepted-requires c κs = search needs
+
+enum-told : tie.Need-enum-told
+enum-told c = search needs
+
+refused-requires : tie.Need-refused-requires
+refused-requires c κs = search needs
+
+enum-known-t-2 : tie.Need-enum-known-t-2
+enum-known-t-2 c = search needs
+
+refused-listing-requires : tie.Need-refused-listing-requires
+refused-listing-requires c κs =
+    let a = c .before in
+    let x = a .before .before .before .before in
+    omega (arith, x .before .before .before .before .before .good, in-table (traversing _ _ _) (answer x _ (a .t2 .given .1)))
+
+same-length : tie.Need-same-length
+same-length c = search needs
+
+returns : tie.Need-returns
+unfolding packed answersValue
+returns c =
+    let a = c .before .before in
+    let x = a .before .before .before .before in
+    (c .accepted .ensures ∙ ap (packed answersValue) (answer x _ (a .t .given .1)), x .traverse .ensures .leaving)
+
+same-length-2 : tie.Need-same-length-2
+same-length-2 c = search needs
+
+returns-2 : tie.Need-returns-2
+unfolding packed
+returns-2 c =
+    let a = c .before in
+    let x = a .before .before .before .before in
+    (c .refused .ensures ∙ ap (packed answersValue) (answer x _ (a .enum-told .given .1)), x .traverse .ensures .leaving)
+
+same-length-3 : tie.Need-same-length-3
+same-length-3 c = search needs
+
+returns-3 : tie.Need-returns-3
+unfolding packed
+returns-3 c =
+    let a = c .before .before in
+    let x = a .before .before .before .before in
+    (c .refused-listing .ensures ∙ ap (packed answersValue) (answer x _ (a .t2 .given .1)), x .traverse .ensures .leaving)
+
+pub cerahupo-traverse-spec : {M : Type 1} → statement M
+cerahupo-traverse-spec =
+    tie.close
+    (tie.spec
+    traverse-requires
+    enum-known-t
+    accepted-requires
+    enum-told
+    refused-requires
+    enum-known-t-2
+    refused-listing-requires
+    same-length
+    returns
+    same-length-2
+    returns-2
+    same-length-3
+    returns-3)
