@@ -1,6 +1,6 @@
 /* An office, a rod and a logger in one program: condition 0 of a book is compiled and checked, and on a few signal sets the rod
- * is asked by the listing and the logger by the book; the logger shows its score too. The book is document 01's, or the file named
- * on the command line.
+ * is asked by the listing and the logger by the book; the logger shows its score too. Then the rod decides the same sets as one
+ * traverse. The book is document 01's, or the file named on the command line.
  *
  *     rt staticlib exports
  *     cc -O2 -Iinclude examples/rod_and_logger.c target/staticlib/libexports.a -o target/rod_and_logger
@@ -23,6 +23,10 @@ static uint8_t book[8193] =
     "c 50 < min(p0,p1)\n";
 
 static uint32_t words[4 * 4096];
+
+/* What was found at each corner of a small traverse. */
+enum { CORNERS = 6 };
+static const uint16_t sets[CORNERS] = {0, 3, 6, 8, 11, 65535};
 
 static const char *answer_text(uint64_t answer)
 {
@@ -71,9 +75,7 @@ static void print_score(size_t length, uint16_t set)
 
 static void ask_both(size_t length, size_t records)
 {
-    static const uint16_t sets[] = {0, 3, 6, 8, 11, 65535};
-
-    for (size_t i = 0; i < sizeof sets / sizeof sets[0]; i++) {
+    for (size_t i = 0; i < CORNERS; i++) {
         uint64_t rod = cerahupo_read(words, 4 * records, sets[i]);
         uint64_t logger = cerahupo_decide(book, length, 0, sets[i]);
         printf("set %u: rod %s, logger %s", sets[i], answer_text(rod), answer_text(logger));
@@ -82,12 +84,29 @@ static void ask_both(size_t length, size_t records)
     }
 }
 
+/* The corners in one call, for which the listing is examined once: 1 holds a corner, 0 doesn't. */
+static int print_traverse(size_t records)
+{
+    uint8_t answers[CORNERS];
+    uint64_t traverse = cerahupo_traverse(words, 4 * records, sets, CORNERS, answers, CORNERS);
+    if (!cerahupo_accepted(traverse))
+        return refused("traverse", traverse);
+    printf("traverse of %zu corners:", cerahupo_answers(traverse));
+    for (size_t i = 0; i < CORNERS; i++)
+        printf(" %u", answers[i]);
+    printf("\n");
+    return 0;
+}
+
 /* How calls decline. The listing is still compared after the first, which wrote no word. */
 static void show_refusals(size_t length, size_t records)
 {
     refused("one word too few", cerahupo_compile(book, length, 0, words, 4 * records - 1));
     refused("condition 8", cerahupo_decide(book, length, 8, 0));
     refused("no words", cerahupo_read(NULL, 0, 0));
+
+    uint8_t answers[CORNERS];
+    refused("one answer too few", cerahupo_traverse(words, 4 * records, sets, CORNERS, answers, CORNERS - 1));
 
     uint64_t cut = cerahupo_compare(words, 4 * records, words, 4 * records - 1);
     printf("compared with itself cut short: listing %u refused %u\n", cerahupo_declined_listing(cut), cerahupo_number(cut));
@@ -129,6 +148,7 @@ int main(int count, char **names)
     print_listing(records);
     print_choice(cerahupo_choice(words, 4 * records));
     ask_both(length, records);
+    int status = print_traverse(records);
     show_refusals(length, records);
-    return 0;
+    return status;
 }

@@ -1,8 +1,9 @@
-/* Cerahupo from C: the check of a book, the scored decision, the score itself, compiling, the rod's reading, the choice check and
- * the comparison.
+/* Cerahupo from C: the check of a book, the scored decision, the score itself, compiling, the rod's reading, a whole traverse, the
+ * choice check and the comparison.
  *
  * Link libexports.a, which `rt staticlib exports` writes for x86-64 Linux. It uses memcpy and memset of the C library and
- * nothing else, keeps no state and allocates nothing, so calls may run side by side.
+ * nothing else, keeps no state and allocates nothing, so calls may run side by side, if nobody else touches what was lent to one, or
+ * writes what it reads, until it returns.
  *
  * A book is bytes, a listing is 32-bit words, four a record; docs/OFFICE.md and docs/LISTING.md say what both mean. An excluded
  * pair is two signals that never occur together, as a line `x A B` of the book says; listings carry it as a record of kind 5.
@@ -10,15 +11,17 @@
  * for all four. A library from before change request 2 has 0 for all four in every book, and refuses an `o` (2, line 1): see
  * docs/FIRMWARE.md before a logger is brought up to date.
  *
- * Books and listings are handed over as a pointer and a number of elements; with 0 elements the pointer may be anything, NULL
- * too. Every content has an answer: none has to be checked before a call. Nothing is written but the words lent to
- * cerahupo_compile and the number lent to cerahupo_score.
+ * Books, listings, sets and answers are handed over as a pointer and a number of elements; with 0 elements the pointer may be
+ * anything, NULL too, and otherwise there are so many, aligned as C wants them. Every content has an answer: none has to be checked
+ * before a call. Nothing is written but the words lent to cerahupo_compile, the number lent to cerahupo_score and the answers lent to
+ * cerahupo_traverse.
  *
- * A call returns one number, which tells its whole answer, but for the remainder of a score:
+ * A call returns one number, which tells its whole answer, but for the remainder of a score and the answers of a traverse:
  *
- *     bits 0 to 4    the code: 0 where the call was accepted, else the refusal's number, for which 1 to 20 are kept (document
- *                    01's table has 1 to 10); 25 and 26 are the refusals 9 and 10 of the second listing of a comparison
- *     bits 5 to 63   the value: on a refusal the line or the record beside it (0 where the table has 0), otherwise the result
+ *     bits 0 to 4    the code: 0 where the call was accepted, else the refusal's number, for which 1 to 20 are kept (today's
+ *                    calls have 1 to 11: ten of document 01, and 11 of change request 6); 25 and 26 are the refusals 9 and 10 of
+ *                    the second listing of a comparison
+ *     bits 5 to 63   the value: on a refusal the line or the record beside it (0 beside 7, 8, 9 and 11), otherwise the result
  *
  * The functions at the end take it apart; docs/FIRMWARE.md has the values of all results in one table. */
 
@@ -59,6 +62,14 @@ uint64_t cerahupo_compile(const uint8_t *book, size_t book_length, uint32_t cond
  * the record, which counts from 1. */
 uint64_t cerahupo_read(const uint32_t *words, size_t words_length, uint16_t set);
 
+/* A whole traverse by one listing: for each of the sets, in their order, 1 or 0 is written among the answers, as cerahupo_read
+ * would say yes or no of it. The listing is examined once, also where there are no sets. The answers must not overlap the words or
+ * the sets. Result: the number of answers, which is that of the sets (modulo 2 to the 59, and no machine has so much memory).
+ * Refusals: 11, 0 where answers_length, the exact number and not the room there is, differs from sets_length, before the listing is
+ * examined; then those of cerahupo_read. On a refusal no answer is written. */
+uint64_t cerahupo_traverse(const uint32_t *words, size_t words_length, const uint16_t *sets, size_t sets_length, uint8_t *answers,
+                           size_t answers_length);
+
 /* The choice check of a listing over all signal sets that hold no excluded pair of it (without such pairs all 65,536): one pass
  * in rising order, which ends when it has a yes and a no. Result: always, never or both, for both also the lowest yes set and the
  * lowest no set; and how many sets were judged: all of those, or for both the ones up to the higher of the two, itself included.
@@ -95,7 +106,7 @@ static inline unsigned cerahupo_declined_listing(uint64_t answer) { return cerah
 static inline unsigned cerahupo_policies(uint64_t answer) { return (unsigned)(answer >> 5 & 2047); }
 static inline unsigned cerahupo_conditions(uint64_t answer) { return (unsigned)(answer >> 16); }
 
-/* cerahupo_decide and cerahupo_read: accepted, and yes. A refusal is no yes. */
+/* cerahupo_decide and cerahupo_read: accepted, and yes. A refusal is no yes. Never ask it of a traverse, where 32 is one answer. */
 static inline bool cerahupo_yes(uint64_t answer) { return answer == 32; }
 
 /* cerahupo_score, accepted: the hundredths. The value counts from -10,000, the lowest score that there is. */
@@ -103,6 +114,10 @@ static inline int32_t cerahupo_hundredths(uint64_t answer) { return (int32_t)((i
 
 /* cerahupo_compile: the number of records, 0 on a refusal. A listing has at least one. */
 static inline size_t cerahupo_records(uint64_t answer) { return cerahupo_accepted(answer) ? (size_t)(answer >> 5) : 0; }
+
+/* cerahupo_traverse: the number of answers written. 0 on a refusal, and also for an accepted traverse of no sets: cerahupo_accepted
+ * tells them apart. */
+static inline size_t cerahupo_answers(uint64_t answer) { return cerahupo_accepted(answer) ? (size_t)(answer >> 5) : 0; }
 
 /* cerahupo_choice, accepted: which it is; how many sets were judged, 2 to 65,536; and, only for both, the two sets. */
 enum { CERAHUPO_ALWAYS = 0, CERAHUPO_NEVER = 1, CERAHUPO_BOTH = 2 };

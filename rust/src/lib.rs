@@ -21,7 +21,8 @@ pub mod raw;
 use raw::Told;
 use std::fmt;
 
-/// A refusal by document 01's table: its number, and the line or record beside it, 0 where there is none.
+/// A refusal by document 01's table, or by 11 where the slices of a traverse are not equally long: its number, and the
+/// line or record beside it, 0 where there is none.
 #[derive(Clone, Copy, Debug, PartialEq, Eq)]
 pub struct Refusal {
     pub number: u8,
@@ -123,6 +124,24 @@ pub fn compile(book: &[u8], condition: u32, words: &mut [u32]) -> Result<u64, Re
 /// The rod's reading of a listing; excluded pairs change no answer.
 pub fn read(words: &[u32], set: u16) -> Result<Decision, Refusal> {
     raw::read(words, set).result().map(Decision::told)
+}
+
+/// A whole traverse: for each of the sets, in their order, 1 or 0 is written among the answers, as `read` would say yes or
+/// no of it. The listing is examined once, also where there are no sets. Returns the number of answers.
+///
+/// If sets and answers are not equally many this is refused by 11, before the listing is examined. On a refusal the
+/// answers are unchanged.
+///
+/// ```
+/// // yes where signals 0 and 2 are present
+/// let listing = [16, 5, 2, 0, 4, 5, 0, 0];
+/// let mut answers = [0; 4];
+/// assert_eq!(cerahupo::traverse(&listing, &[5, 1, 7, 0], &mut answers)?, 4);
+/// assert_eq!(answers, [1, 0, 1, 0]);
+/// # Ok::<(), cerahupo::Refusal>(())
+/// ```
+pub fn traverse(words: &[u32], sets: &[u16], answers: &mut [u8]) -> Result<u64, Refusal> {
+    raw::traverse(words, sets, answers).result()
 }
 
 /// The choice check of a listing, over all signal sets that hold no excluded pair of it: one pass in rising order, which

@@ -7,6 +7,14 @@ mod library {
         pub fn cerahupo_score(book: *const u8, bytes: usize, condition: u32, set: u16, remainder: *mut u64) -> u64;
         pub fn cerahupo_compile(book: *const u8, bytes: usize, condition: u32, words: *mut u32, count: usize) -> u64;
         pub fn cerahupo_read(words: *const u32, count: usize, set: u16) -> u64;
+        pub fn cerahupo_traverse(
+            words: *const u32,
+            count: usize,
+            sets: *const u16,
+            set_count: usize,
+            answers: *mut u8,
+            answer_count: usize,
+        ) -> u64;
         pub fn cerahupo_choice(words: *const u32, count: usize) -> u64;
         pub fn cerahupo_compare(one: *const u32, ones: usize, two: *const u32, twos: usize) -> u64;
     }
@@ -44,7 +52,7 @@ impl Told {
 }
 
 // Each call below is safe because the library takes every slice whatever, reads only what it was handed, keeps no
-// pointer, and writes only the lent words and the lent number, which nobody else can reach.
+// pointer, and writes only the lent words, the lent number and the lent answers, which nobody else can reach.
 
 pub fn check(book: &[u8]) -> Told {
     // SAFETY: as above.
@@ -70,6 +78,13 @@ pub fn compile(book: &[u8], condition: u32, words: &mut [u32]) -> Told {
 pub fn read(words: &[u32], set: u16) -> Told {
     // SAFETY: as above.
     Told(unsafe { library::cerahupo_read(words.as_ptr(), words.len(), set) })
+}
+
+/// The value is the number of answers, modulo 2 to the 59; each answer is 1 or 0, and on a refusal none is written.
+pub fn traverse(words: &[u32], sets: &[u16], answers: &mut [u8]) -> Told {
+    let (lent, count) = (answers.as_mut_ptr(), answers.len());
+    // SAFETY: as above.
+    Told(unsafe { library::cerahupo_traverse(words.as_ptr(), words.len(), sets.as_ptr(), sets.len(), lent, count) })
 }
 
 /// The value has which it is in its lowest eleven bits, then sixteen bits each for the lowest yes, the lowest no, and how

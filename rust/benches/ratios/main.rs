@@ -1,5 +1,6 @@
 //! Each call against optimised Rust for the same call: `cargo bench`, or `cargo bench -- read` for one of them.
-//! `choice` and `compare` also against a loop over single sets, and with `z3` against Z3 where there is one.
+//! `traverse` also against a loop of `read`, and against Rust that copies the masks together first; `choice` and `compare`
+//! also against a loop over single sets, and with `z3` against Z3 where there is one.
 //! Lent words are not cleared between calls unless a row says so.
 
 mod optimised;
@@ -8,10 +9,10 @@ mod single;
 mod timing;
 mod z3;
 
-use cerahupo::{Choice, Chosen, Comparison, Declined, Refusal};
+use cerahupo::{Choice, Chosen, Comparison, Decision, Declined, Refusal};
 use samples::{
-    SAMPLE, count_book, exclusions, idle_book, listing, long_listing, many_mentions, mixed, never_book, never_mentions,
-    policy, sum_book, vain_book, wide_book,
+    SAMPLE, corners, count_book, exclusions, idle_book, listing, long_listing, many_mentions, mixed, never_book,
+    never_mentions, policy, sum_book, vain_book, wide_book,
 };
 use timing::{Input, Quotient, Table, asked};
 
@@ -19,18 +20,25 @@ use timing::{Input, Quotient, Table, asked};
 type Rows = fn(&Table);
 
 fn main() {
-    let calls: [(&str, Rows); 7] = [
+    let calls: [(&str, Rows); 8] = [
         ("check", check),
         ("decide", decide),
         ("score", score),
         ("compile", compile),
         ("read", read),
+        ("traverse", traverse),
         ("choice", choice),
         ("compare", compare),
     ];
     let table = Table::new("Rust", Quotient::Ratio, 1);
     calls.iter().filter(|call| asked(call.0)).for_each(|call| call.1(&table));
+    if asked("traverse") {
+        traverse_by_copied_masks(&Table::new("copied", Quotient::Ratio, 1));
+    }
     let table = Table::new("single", Quotient::Times, 4);
+    if asked("traverse") {
+        traverse_by_single_calls(&table);
+    }
     if asked("choice") {
         choice_by_single_sets(&table);
     }
@@ -147,6 +155,41 @@ fn read(table: &Table) {
     row("the sample with 16 exclusions, set 11", &(exclusions() + SAMPLE), 11);
     row("16 mentions of a sum of 12, no line inside", &many_mentions(12), 1);
     row("16 mentions of a sum of 16, no line inside", &many_mentions(16), 1);
+}
+
+fn traverse(table: &Table) {
+    traverse_rows(table, optimised::traverse);
+}
+
+fn traverse_by_copied_masks(table: &Table) {
+    traverse_rows(table, single::traverse);
+}
+
+/// A call of `read` for each corner.
+fn traverse_by_single_calls(table: &Table) {
+    traverse_rows(table, |words, sets, answers| {
+        for (answer, &set) in answers.iter_mut().zip(sets) {
+            *answer = u8::from(cerahupo::read(words, set)? == Decision::Yes);
+        }
+        Ok(sets.len() as u64)
+    });
+}
+
+type Traverse = fn(&[u32], &[u16], &mut [u8]) -> Result<u64, Refusal>;
+
+/// Small and large listings for one corner and for many, each side with answers of its own.
+fn traverse_rows(table: &Table, rust: Traverse) {
+    for (name, book) in [("the sample", SAMPLE), ("a sum of 8", &sum_book(8)), ("a sum of 12", &sum_book(12))] {
+        let words = listing(book);
+        for count in [1, 100, 10_000] {
+            let sets = corners(count);
+            let (mut one, mut two) = (vec![7; count], vec![8; count]);
+            let name = format!("{name}, records: {}", words.len() / 4);
+            let input = Input { call: "traverse", name: &name, size: count, unit: "corners" };
+            table.row(input, || cerahupo::traverse(&words, &sets, &mut one), || rust(&words, &sets, &mut two));
+            assert!(one == two, "answers of {name}");
+        }
+    }
 }
 
 fn choice(table: &Table) {

@@ -79,6 +79,11 @@ pub fn many_mentions(rules: usize) -> String {
     format!("{}c {} < {}\n", policy("sum", rules, |_| 1), rules / 2 - 1, mentions(16, 1))
 }
 
+/// The signal sets of so many corners, spread over all that there are.
+pub fn corners(count: usize) -> Vec<u16> {
+    (0..count).map(|corner| (corner * 40_503 + 12_345) as u16).collect()
+}
+
 /// The listing of a book's condition 0.
 pub fn listing(book: &str) -> Vec<u32> {
     let mut words = vec![0; 1 << 20];

@@ -58,6 +58,24 @@ pub fn read(words: &[u32], set: u16) -> Result<Decision, Refusal> {
     expected
 }
 
+/// Answers into the lent part; every byte of the whole is compared, and every answer with that of a single call.
+pub fn traverse(words: &[u32], sets: &[u16], lent: &mut Inside<u8>) -> Result<u64, Refusal> {
+    let (mut by_call, mut by_number, mut by_rust) = (lent.clone(), lent.clone(), lent.clone());
+    let expected = reference::traverse(words, sets, lent.lent());
+    let input = format!("traverse of {sets:?} with {} answers by {words:?}", lent.slice().len());
+    assert_eq!(cerahupo::traverse(words, sets, by_call.lent()), expected, "{input}");
+    assert!(by_call.whole == lent.whole, "answers of the {input}");
+    assert_eq!(raw::traverse(words, sets, by_number.lent()).0, number(expected, |answers| answers));
+    assert!(by_number.whole == lent.whole, "answers of the raw {input}");
+    assert_eq!(optimised::traverse(words, sets, by_rust.lent()), expected, "optimised {input}");
+    assert!(by_rust.whole == lent.whole, "answers of the optimised {input}");
+    if expected.is_ok() {
+        let single: Vec<u64> = sets.iter().map(|&set| cerahupo::read(words, set).map_or(2, yes_number)).collect();
+        assert!(lent.slice().iter().copied().map(u64::from).eq(single), "single calls of the {input}");
+    }
+    expected
+}
+
 pub fn choice(words: &[u32]) -> Result<Chosen, Refusal> {
     let expected = reference::choice(words);
     assert_eq!(cerahupo::choice(words), expected, "choice of {words:?}");

@@ -84,6 +84,25 @@ fn results_with_an_o() {
     assert_eq!(raw::compile(old, 0, &mut [0; 3]).0, 8);
 }
 
+/// What a traverse returned, and the answers that it left: 7 and 8 were lent.
+fn traversed(words: &[u32], sets: &[u16]) -> (u64, [u8; 2]) {
+    let mut answers = [7, 8];
+    (raw::traverse(words, sets, &mut answers).0, answers)
+}
+
+#[test]
+fn traverses() {
+    assert_eq!(raw::traverse(&HELD, &[], &mut []).0, 0);
+    assert_eq!(traversed(&HELD, &[1, 2]), (64, [1, 0]));
+    assert_eq!(traversed(&ALWAYS, &[0, 0]), (64, [1, 1]));
+    assert_eq!(traversed(&HELD, &[1]), (11, [7, 8]));
+    assert_eq!(traversed(&HELD, &[1, 2, 3]), (11, [7, 8]));
+    assert_eq!(traversed(&[], &[1]), (11, [7, 8]));
+    assert_eq!(traversed(&[], &[1, 2]), (9, [7, 8]));
+    assert_eq!(traversed(&SECOND_RECORD_BROKEN, &[1, 2]), (74, [7, 8]));
+    assert_eq!(raw::traverse(&SECOND_RECORD_BROKEN, &[], &mut []).0, 74);
+}
+
 #[test]
 fn refusals_of_books() {
     let refusals: [(&[u8], u64); 14] = [

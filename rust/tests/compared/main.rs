@@ -14,6 +14,7 @@ mod reference;
 mod same_lines;
 mod samples;
 mod tally;
+mod traverses;
 mod worked;
 
 #[path = "../../benches/ratios/optimised/mod.rs"]

@@ -107,6 +107,16 @@ fn scores() {
     assert_eq!(score(&with(&format!("p sum\n{rules}"), "c 0 < p0"), u16::MAX), (160_000, 0));
 }
 
+/// Change request 6: corners a, b and c of book A in one call, then a set that holds three lines, one that holds none, and
+/// corner a again.
+#[test]
+fn a_whole_traverse() {
+    let words = listing(&with(BOOK_A, "c 50 < min(p0,p1)"));
+    let mut answers = Inside::new(&[77; 6], &mut Random::of("whole traverse"), |_| 77);
+    assert_eq!(agreed::traverse(&words, &[3, 0, 11, 7, 4, 3], &mut answers), Ok(6));
+    assert_eq!(answers.slice(), [1, 0, 0, 1, 0, 1]);
+}
+
 /// Two products of 25 hundredths that differ in the remainder alone: min and max tell them apart, and so does T.
 #[test]
 fn scores_that_differ_in_the_remainder() {

@@ -24,6 +24,14 @@ int main(void)
     printf("score %" PRId32, cerahupo_hundredths(cerahupo_score(book, length, 0, 3, &remainder)));
     printf(" and %" PRIu64 "\n", remainder);
     printf("rod %d\n", cerahupo_yes(cerahupo_read(words, 4 * records, 3)));
+    static const uint16_t sets[3] = {3, 0, 65535};
+    uint8_t answers[3];
+    printf("traverse %zu:", cerahupo_answers(cerahupo_traverse(words, 4 * records, sets, 3, answers, 3)));
+    printf(" %u %u %u\n", answers[0], answers[1], answers[2]);
+    answers[0] = answers[1] = answers[2] = 7;
+    printf("unequal %u", cerahupo_number(cerahupo_traverse(words, 4 * records, sets, 2, answers, 3)));
+    printf(" left %u %u %u\n", answers[0], answers[1], answers[2]);
+    printf("no sets %" PRIu64 "\n", cerahupo_traverse(words, 4 * records, NULL, 0, NULL, 0));
     uint64_t choice = cerahupo_choice(words, 4 * records);
     printf("never %d judged %" PRIu32 "\n", cerahupo_choice_kind(choice) == CERAHUPO_NEVER, cerahupo_judged(choice));
     printf("alike %d\n", cerahupo_alike(cerahupo_compare(words, 4 * records, never, 4)));

@@ -64,6 +64,7 @@ fn expected(number: u64) -> String {
         bits(16, 31),
         bits(32, 47),
         bits(48, 63) + 1,
+        if accepted { value } else { 0 },
         u64::from(number == 0),
         bits(16, 31),
         if bits(5, 15) == 3 { 1 } else { 2 },
@@ -103,6 +104,9 @@ fn a_pair_in_c() {
         "none 7 lent 77",
         "score 2 and 0",
         "rod 1",
+        "traverse 3: 1 0 1",
+        "unequal 11 left 7 7 7",
+        "no sets 0",
         "never 1 judged 49152",
         "alike 1",
     ];

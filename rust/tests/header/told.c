@@ -15,7 +15,7 @@ int main(void)
         printf(" %u %u %d %zu", cerahupo_policies(answer), cerahupo_conditions(answer), cerahupo_yes(answer),
                cerahupo_records(answer));
         printf(" %u %u %u", cerahupo_choice_kind(answer), cerahupo_lowest_yes(answer), cerahupo_lowest_no(answer));
-        printf(" %" PRIu32, cerahupo_judged(answer));
+        printf(" %" PRIu32 " %zu", cerahupo_judged(answer), cerahupo_answers(answer));
         printf(" %d %u %u", cerahupo_alike(answer), cerahupo_lowest_difference(answer), cerahupo_yes_listing(answer));
         printf(" %" PRId32 "\n", cerahupo_hundredths(answer));
     }

@@ -66,6 +66,17 @@ pub fn read(words: &[u32], set: u16) -> Result<Decision, Refusal> {
     Ok(decision(says(check(words)?, set)))
 }
 
+pub fn traverse(words: &[u32], sets: &[u16], answers: &mut [u8]) -> Result<u64, Refusal> {
+    if sets.len() != answers.len() {
+        return refused(11, 0);
+    }
+    let records = check(words)?;
+    for (answer, &set) in answers.iter_mut().zip(sets) {
+        *answer = u8::from(says(records, set));
+    }
+    Ok(sets.len() as u64)
+}
+
 /// What a sound listing says of one set.
 pub fn says(records: &[Record], set: u16) -> bool {
     let mut values = 0u32;

@@ -11,7 +11,7 @@ use cerahupo::{Counts, Decision, Refusal, Score};
 
 pub use compiling::compile;
 pub use groups::{choice, compare};
-pub use listing::read;
+pub use listing::{read, traverse};
 
 fn refused<T>(number: u8, value: usize) -> Result<T, Refusal> {
     Err(Refusal { number, value: value as u64 })

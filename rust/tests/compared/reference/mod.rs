@@ -59,6 +59,18 @@ pub fn read(words: &[u32], set: u16) -> Result<Decision, Refusal> {
     Ok(decision(listing::take(words)?.tree.says(set)))
 }
 
+/// Unequal slices, a declined listing, or single readings one after the other.
+pub fn traverse(words: &[u32], sets: &[u16], answers: &mut [u8]) -> Result<u64, Refusal> {
+    if sets.len() != answers.len() {
+        return refused(11, 0);
+    }
+    let listing = listing::take(words)?;
+    for (place, &set) in sets.iter().enumerate() {
+        answers[place] = if listing.tree.says(set) { 1 } else { 0 };
+    }
+    Ok(sets.len() as u64)
+}
+
 /// Set by set in rising order, until there is a yes and a no.
 pub fn choice(words: &[u32]) -> Result<Chosen, Refusal> {
     let listing = listing::take(words)?;
