@@ -13,7 +13,7 @@ use Rattle.rod.specs.Meaning.{rodMeaning}
 use Rattle.rod.specs.declared.Decision.{Decision as RodDecision}
 use Rattle.peal.specs.Policies.{Condition, Book}
 use Rattle.peal.specs.Score.{decision}
-use Rattle.peal.specs.Translation.{listingRecords}
+use Rattle.translation.specs.Translation.{listingRecords}
 use Rattle.book.specs.Books.{asked}
 use Rattle.score.specs.Decisions.{scoredAnswer}
 use Rattle.score.specs.Meaning.{scoreMeaning}

@@ -7,7 +7,7 @@ use native.Mathlib.Omega.{arith}
 use lib.IntN.{ℤ}
 use Rattle.answers.specs.Answers.{result}
 use Rattle.arith.specs.Lists.{Each}
-use Rattle.arith.specs.Trees.{leaf, join, mapTree, treeValue}
+use Rattle.arith.specs.Trees.{leaf, join, mapTree, treeValue, leafCount}
 use Rattle.arith.proofs.Each.{each-default}
 use Rattle.layout.specs.Nodes.{ListedPolicy, ListedTree}
 use Rattle.layout.specs.WellFormed.{PolicyFits, TreeFits, policyCount}
@@ -15,13 +15,13 @@ use Rattle.rod.specs.Reading.{policyValue, joined}
 use Rattle.rod.proofs.Trees.{rod-tree}
 use Rattle.peal.specs.Policies.{Policy, MinMax, smaller, larger, Expression, Condition, Book, emptyPolicy, policyAt}
 use Rattle.peal.specs.Score.{scaled, ofTwo, score, meets, decision}
-use Rattle.peal.specs.Translation.{joinOf, listed, translated, pairMask, listingRecords}
+use Rattle.translation.specs.Translation.{joinOf, listed, translated, pairMask, listingRecords}
 use Rattle.peal.specs.declared.Sense.{Sense}
 use Rattle.peal.specs.declared.Sense.the-variants.{Above, AtMost}
-use Rattle.peal.proofs.MaskLaws.{listed-fits}
+use Rattle.translation.proofs.ListedFits.{listed-fits}
 use Rattle.peal.proofs.TwoLaws.{larger-above, smaller-above, larger-at-most, smaller-at-most}
 use Rattle.book.specs.Acceptance.{within}
-use Rattle.book.specs.Ranges.{PolicyInRange, mentionCount}
+use Rattle.book.specs.Ranges.{PolicyInRange}
 use Rattle.agreement.specs.ConditionAgreement.{ConditionAgreement}
 use Rattle.agreement.proofs.Policies.{signals-fit, policy-agreement}
 use Rattle.agreement.proofs.Pairs.{pairs-fit}
@@ -45,8 +45,8 @@ policy-in-range ps ranges n = each-default PolicyInRange ps n emptyPolicy ranges
 
 -- the tree of an expression, whatever record stands for a mention
 module _ (s : Sense) (recordOf : ℕ → ListedPolicy) where
-  pub tree-policies : (e : Expression) → policyCount (mapTree (joinOf s) recordOf e) ≡ mentionCount e
-  unfolding mapTree policyCount mentionCount treeValue
+  pub tree-policies : (e : Expression) → policyCount (mapTree (joinOf s) recordOf e) ≡ leafCount e
+  unfolding mapTree policyCount leafCount
   tree-policies (leaf n) = refl
   tree-policies (join m a b) = ap₂ (λ (x y : ℕ). x + y) (tree-policies a) (tree-policies b)
 
@@ -76,7 +76,7 @@ module _ (ps : List Policy) (s : Sense) (t : ℤ) where
 -- ---- the condition
 
 module _ (b : Book) (c : Condition) where
-  pub condition-policies : mentionCount (c .expression) ≤ 16 → policyCount (translated (b .policies) c) ≤ 16
+  pub condition-policies : leafCount (c .expression) ≤ 16 → policyCount (translated (b .policies) c) ≤ 16
   unfolding translated
   condition-policies room = omega (arith, tree-policies (c .sense) (recordAt (b .policies) (c .sense) (c .threshold)) (c .expression))
 

@@ -19,7 +19,7 @@ use Rattle.rod.specs.declared.Decision.{Decision as RodDecision}
 use Rattle.rod.specs.declared.Decision.the-variants.{Yes as RodYes, No as RodNo, Declined}
 use Rattle.peal.specs.Policies.{Policy, Expression, Condition, policyAt}
 use Rattle.peal.specs.Score.{decision}
-use Rattle.peal.specs.Translation.{listed, translated, pairMask, listingRecords}
+use Rattle.translation.specs.Translation.{listed, translated, pairMask, listingRecords}
 use Rattle.book.specs.Books.{read, asked}
 use Rattle.book.specs.Ranges.{PolicyInRange}
 use Rattle.book.proofs.AskedLaws.{asked-in-range}

@@ -10,7 +10,7 @@ use Rattle.layout.specs.Records.{words}
 use Rattle.rod.specs.Computing.{rodComputes}
 use Rattle.peal.specs.Policies.{Condition, Book}
 use Rattle.peal.specs.Having.{has}
-use Rattle.book.specs.Text.{bytes}
+use Rattle.text.specs.Text.{bytes}
 use Rattle.book.specs.Books.{asked}
 use Rattle.score.specs.Decisions.{scoredAnswer}
 use Rattle.score.specs.Computing.{scoreComputes}

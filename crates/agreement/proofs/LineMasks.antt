@@ -18,14 +18,13 @@ use Rattle.arith.proofs.Sublists.{kept-inside}
 use Rattle.arith.proofs.Tests.{clash}
 use Rattle.signals.specs.Sets.{present, inside, setOf}
 use Rattle.signals.proofs.SetOfLaws.{present-set}
-use Rattle.peal.specs.Policies.{Rule, Policy}
+use Rattle.peal.specs.Policies.{Rule, Policy, maskOf}
 use Rattle.peal.specs.Ranking.{ranked}
 use Rattle.peal.specs.Lines.{lines}
 use Rattle.peal.specs.SetsOfRules.{SetInside, IsMinimal, Among, InOrder}
 use Rattle.peal.specs.Having.{has}
 use Rattle.peal.specs.LinesAreMinimal.{MinimalLines}
 use Rattle.peal.specs.Score.{presentRules}
-use Rattle.peal.specs.Translation.{maskOf}
 use Rattle.peal.specs.Presence.{allPresent}
 use Rattle.peal.specs.MasksDecide.{SignalsFit}
 use Rattle.peal.specs.declared.Operator.{Operator}

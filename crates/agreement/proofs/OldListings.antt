@@ -10,7 +10,7 @@ use lib.ListN.{length}
 use borrow.Author.Tests.{lt-ltb}
 use Rattle.answers.specs.Answers.{result}
 use Rattle.arith.specs.Lists.{every, keep, nonEmpty, subsets}
-use Rattle.arith.specs.Trees.{leaf, join, mapTree, treeValue}
+use Rattle.arith.specs.Trees.{leaf, join, mapTree, treeValue, leafCount}
 use Rattle.arith.proofs.AnyEvery.{every-append}
 use Rattle.arith.proofs.Keep.{keep-append, keep-same}
 use Rattle.arith.proofs.Members.{keep-none}
@@ -23,20 +23,21 @@ use Rattle.layout.specs.Nodes.{ListedPolicy}
 use Rattle.layout.specs.WellFormed.{PolicyFits}
 use Rattle.rod.specs.Reading.{someLine, policyValue, joined, rodAnswer}
 use Rattle.rod.proofs.Trees.{rod-tree}
-use Rattle.peal.specs.Policies.{Rule, Policy, Expression, Condition, Book, policyAt}
+use Rattle.peal.specs.Policies.{Rule, Policy, Expression, Condition, Book, policyAt, maskOf}
 use Rattle.peal.specs.Score.{presentRules}
 use Rattle.peal.specs.Ranking.{ranked}
 use Rattle.peal.specs.Lines.{setsInside, smallerSets, minimal, minimalSets, lines}
-use Rattle.peal.specs.Translation.{joinOf, quiet, turned, maskOf, listed, translated, pairMask, listingRecords}
+use Rattle.translation.specs.Translation.{joinOf, quiet, turned, listed, translated, pairMask, listingRecords}
 use Rattle.peal.specs.Having.{has}
 use Rattle.peal.specs.Presence.{allPresent}
 use Rattle.peal.specs.declared.Operator.{Operator}
 use Rattle.peal.specs.declared.Sense.{Sense}
 use Rattle.peal.proofs.KeptLaws.{fits-inside, has-all}
-use Rattle.peal.proofs.MaskLaws.{masks-decide, listed-fits}
+use Rattle.peal.proofs.MaskLaws.{masks-decide}
+use Rattle.translation.proofs.ListedFits.{listed-fits}
 use Rattle.peal.proofs.MinimalSets.{inside-out}
 use Rattle.peal.proofs.SingleLaws.{lines-minimal}
-use Rattle.book.specs.Ranges.{PolicyInRange, BookInRange, mentionCount}
+use Rattle.book.specs.Ranges.{PolicyInRange, BookInRange}
 use Rattle.book.proofs.AskedLaws.{asked-in-range}
 use Rattle.agreement.specs.OldListings.{minimalBefore, linesBefore, listedBefore, recordsBefore, OldListings}
 use Rattle.agreement.proofs.Policies.{signals-fit, rules-fit, shared, line-inside}
@@ -171,7 +172,7 @@ module _ (s : Sense) (set : ℕ) (f g : ℕ → ListedPolicy) (same : (n : ℕ) 
   trees-agree (leaf n) = same n
   trees-agree (join m a b) = ap₂ (joined (joinOf s m)) (trees-agree a) (trees-agree b)
 
-module _ (b : Book) (c : Condition) (set : ℕ) (range : BookInRange b) (room : mentionCount (c .expression) ≤ 16) where
+module _ (b : Book) (c : Condition) (set : ℕ) (range : BookInRange b) (room : leafCount (c .expression) ≤ 16) where
   abbrev pairs : List ℕ
   pairs = map pairMask (b .exclusions)
 

@@ -9,7 +9,7 @@ use Rattle.signals.specs.Sets.{isPair}
 use Rattle.signals.proofs.SetOfLaws.{two-signals}
 use Rattle.layout.specs.WellFormed.{ArePairs, PairsFit}
 use Rattle.peal.specs.Policies.{Exclusion, Book}
-use Rattle.peal.specs.Translation.{pairMask}
+use Rattle.translation.specs.Translation.{pairMask}
 use Rattle.book.specs.Ranges.{ExclusionInRange, BookInRange}
 
 mask-is-pair : (x : Exclusion) → ExclusionInRange x → isPair (pairMask x) ≡ true

@@ -9,18 +9,18 @@ use Rattle.arith.proofs.AnyEvery.{any-kept}
 use Rattle.arith.proofs.Tests.{clash}
 use Rattle.signals.specs.Sets.{present, overlap}
 use Rattle.rod.specs.Reading.{someLine, policyValue}
-use Rattle.peal.specs.Policies.{Rule, Policy}
+use Rattle.peal.specs.Policies.{Rule, Policy, maskOf}
 use Rattle.peal.specs.Score.{presentRules, scoreOf, policyScore, meets}
-use Rattle.peal.specs.Translation.{quiet, turned, maskOf, listed}
+use Rattle.translation.specs.Translation.{quiet, turned, listed}
 use Rattle.peal.specs.Having.{has}
 use Rattle.peal.specs.Presence.{somePresent}
-use Rattle.peal.specs.MeetingIsHaving.{turnedOver}
+use Rattle.translation.specs.MeetingIsHaving.{turnedOver}
 use Rattle.peal.specs.SearchFindsLines.{RulesFit}
 use Rattle.peal.specs.MasksDecide.{SignalsFit}
 use Rattle.peal.specs.declared.Sense.{Sense}
 use Rattle.peal.proofs.InsideLaws.{lines-decide}
 use Rattle.peal.proofs.MaskLaws.{masks-decide, masks-inside}
-use Rattle.peal.proofs.MeetingLaws.{meeting-is-having, quiet-is-meeting}
+use Rattle.translation.proofs.MeetingLaws.{meeting-is-having, quiet-is-meeting}
 use Rattle.book.specs.Ranges.{PolicyInRange}
 use Rattle.book.proofs.ScoreSizes.{range-fits}
 use Rattle.agreement.specs.PolicyAgreement.{LinesAgreement, QuietAgreement, PolicyAgreement}

@@ -9,8 +9,8 @@ use Rattle.arith.proofs.Members.{each-in, each-out}
 use Rattle.layout.proofs.Soundness.{tree-nodes}
 use Rattle.layout.proofs.WordsBelow.{listing-below}
 use Rattle.peal.specs.Policies.{Policy}
-use Rattle.peal.specs.Translation.{translated, pairMask, listingRecords}
-use Rattle.peal.proofs.RecordCount.{records-are-few}
+use Rattle.translation.specs.Translation.{translated, pairMask, listingRecords}
+use Rattle.translation.proofs.RecordCount.{records-are-few}
 use Rattle.book.specs.Ranges.{PolicyInRange}
 use Rattle.book.proofs.RangeLaws.{rules-at-most}
 use Rattle.agreement.specs.WordsFit.{WordsFit}

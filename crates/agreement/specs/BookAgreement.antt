@@ -6,7 +6,7 @@ use Rattle.answers.specs.Answers.{result}
 use Rattle.layout.specs.Records.{words}
 use Rattle.rod.specs.Reading.{rodAnswer}
 use Rattle.peal.specs.Policies.{Condition, Book}
-use Rattle.peal.specs.Translation.{listingRecords}
+use Rattle.translation.specs.Translation.{listingRecords}
 use Rattle.book.specs.Books.{asked}
 use Rattle.score.specs.Decisions.{scoredAnswer}
 

@@ -6,7 +6,7 @@ use lib.ListN.{length}
 use Rattle.answers.specs.Answers.{Answer, result, refused, onResult}
 use Rattle.rod.specs.Meaning.{rodMeaning}
 use Rattle.peal.specs.Score.{decision}
-use Rattle.peal.specs.Translation.{listingRecords}
+use Rattle.translation.specs.Translation.{listingRecords}
 use Rattle.book.specs.Books.{asked}
 use Rattle.book.specs.Meaning.{refusalMeaning}
 use Rattle.score.specs.Meaning.{scoreMeaning}

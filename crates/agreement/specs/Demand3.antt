@@ -16,10 +16,10 @@ use Rattle.rod.specs.declared.Decision.{Decision as RodDecision}
 use Rattle.rod.specs.declared.Decision.the-variants.{Yes as RodYes, No as RodNo}
 use Rattle.rod.specs.declared.Traversed.{Traversed}
 use Rattle.rod.specs.declared.Traversed.the-variants.{Answered}
-use Rattle.peal.specs.Policies.{Rule, Policy, MinMax, Condition, Book, policyAt}
+use Rattle.peal.specs.Policies.{Rule, Policy, MinMax, Condition, Book, policyAt, maskOf}
 use Rattle.peal.specs.SetsOfRules.{SetInside, IsMinimal, Among, InOrder}
 use Rattle.peal.specs.Having.{has}
-use Rattle.peal.specs.Translation.{maskOf, joinOf, pairMask, listingRecords}
+use Rattle.translation.specs.Translation.{joinOf, pairMask, listingRecords}
 use Rattle.book.specs.Books.{read, conditionAt, asked}
 use Rattle.score.specs.Decisions.{scoredAnswer}
 use Rattle.score.specs.Meaning.{scoreMeaning}

@@ -5,10 +5,10 @@ use mathlib.Core.Path.{_≡_}
 use lib.IntN.{ℤ}
 use Rattle.signals.specs.Sets.{overlap}
 use Rattle.rod.specs.Reading.{someLine, policyValue}
-use Rattle.peal.specs.Policies.{Policy}
+use Rattle.peal.specs.Policies.{Policy, maskOf}
 use Rattle.peal.specs.Score.{policyScore, meets}
-use Rattle.peal.specs.Translation.{quiet, turned, maskOf, listed}
-use Rattle.peal.specs.MeetingIsHaving.{turnedOver}
+use Rattle.translation.specs.Translation.{quiet, turned, listed}
+use Rattle.translation.specs.MeetingIsHaving.{turnedOver}
 use Rattle.peal.specs.declared.Sense.{Sense}
 use Rattle.book.specs.Ranges.{PolicyInRange}
 

@@ -1,13 +1,14 @@
 -- Claimed: the words of a condition's listing fit 32 bits, so that they can be handed to the rod. Proved in proofs/Words.antt.
 use Prim.Native.Nat.{_^_, _≤_}
 use Rattle.arith.specs.Lists.{AllBelow}
+use Rattle.arith.specs.Trees.{leafCount}
 use Rattle.layout.specs.Records.{words}
 use Rattle.peal.specs.Policies.{Condition, Book}
-use Rattle.peal.specs.Translation.{listingRecords}
-use Rattle.book.specs.Ranges.{BookInRange, mentionCount}
+use Rattle.translation.specs.Translation.{listingRecords}
+use Rattle.book.specs.Ranges.{BookInRange}
 
 -- for a book in range and a condition of at most 16 mentions
 abbrev pub WordsFit : Type 0
 WordsFit =
-    (b : Book) (c : Condition) → BookInRange b → mentionCount (c .expression) ≤ 16
+    (b : Book) (c : Condition) → BookInRange b → leafCount (c .expression) ≤ 16
     → AllBelow (2 ^ 32) (words (listingRecords b c))

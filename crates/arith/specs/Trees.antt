@@ -19,6 +19,11 @@ module _ {J L : Type 0} where
   postfix (leaf l) = value l ∷ []
   postfix (join j a b) = postfix a ++ (postfix b ++ (joining j ∷ []))
 
+  -- how many leaves a tree has
+  unfoldable pub leafCount : Tree J L → ℕ
+  leafCount (leaf l) = 1
+  leafCount (join j a b) = leafCount a + leafCount b
+
   -- taken one after the other from n values on, each join finds two values, and one value is left
   abbrev pub LeavesOne : List (Node J L) → ℕ → Type 0
   LeavesOne [] n = n ≡ 1

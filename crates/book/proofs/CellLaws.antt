@@ -16,18 +16,17 @@ use Rattle.arith.specs.Lists.{padded}
 use Rattle.arith.proofs.Each.{each-get}
 use Rattle.arith.proofs.Padding.{padded-more}
 use Rattle.signals.proofs.SetOfLaws.{set-below}
-use Rattle.peal.specs.Policies.{Rule, Policy, Exclusion, Condition, Book, noRule, noExclusion, policyAt}
-use Rattle.peal.specs.Translation.{maskOf}
+use Rattle.peal.specs.Policies.{Rule, Policy, Exclusion, Condition, Book, noRule, noExclusion, policyAt, maskOf}
 use Rattle.peal.specs.declared.Operator.{Operator}
 use Rattle.peal.specs.declared.Operator.the-variants.{Min, Max, Sum, Mul}
 use Rattle.peal.specs.declared.Sense.{Sense}
 use Rattle.peal.specs.declared.Sense.the-variants.{Above, AtMost}
-use Rattle.book.specs.Codes.{codesOf}
+use Rattle.text.specs.Codes.{codesOf}
 use Rattle.book.specs.Cells.{PolicyCells, ExclusionCells, ConditionCells, BookCells, operatorCode, senseCode}
 use Rattle.book.specs.Ranges.{signalsOf, PolicyInRange, ExclusionInRange, ConditionInRange, BookInRange, PolicyKept, ExclusionsKept, ConditionKept}
-use Rattle.book.proofs.CodeLaws.{mention-below}
+use Rattle.book.proofs.MentionedPolicies.{mention-below}
 use Rattle.book.proofs.ConditionLaws.{condition-within, each-condition}
-use Rattle.book.proofs.MentionLaws.{codes-count}
+use Rattle.text.proofs.MentionLaws.{codes-count}
 use Rattle.book.proofs.RangeLaws.{rules-at-most, policy-in-range}
 
 -- ---- a cell that is read

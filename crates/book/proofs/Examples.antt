@@ -12,7 +12,7 @@ use Rattle.peal.specs.Policies.{Rule, Policy, Exclusion, Book, smaller}
 use Rattle.peal.specs.declared.Operator.{Operator}
 use Rattle.peal.specs.declared.Operator.the-variants.{Min, Max, Sum, Mul}
 use Rattle.peal.specs.declared.Sense.the-variants.{Above, AtMost}
-use Rattle.book.specs.Text.{bytes, textLines}
+use Rattle.text.specs.Text.{bytes, textLines}
 use Rattle.book.specs.Books.{read, Counts, checked}
 use Rattle.book.specs.OldBooks.{readBefore, lineBelow, ZerosWritten}
 use Rattle.book.specs.Computing.{bookComputes}

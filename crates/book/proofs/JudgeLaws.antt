@@ -16,15 +16,14 @@ use Rattle.arith.specs.Lists.{any, every, Distinct}
 use Rattle.arith.proofs.AnyEvery.{any-map}
 use Rattle.signals.specs.Sets.{present}
 use Rattle.signals.proofs.SetOfLaws.{present-set}
-use Rattle.peal.specs.Policies.{Rule, Expression, Exclusion}
-use Rattle.peal.specs.Translation.{maskOf}
+use Rattle.peal.specs.Policies.{Rule, Expression, Exclusion, maskOf}
 use Rattle.peal.specs.declared.Operator.{Operator}
 use Rattle.peal.specs.declared.Sense.{Sense}
 use Rattle.limits.specs.Limits.{roomForPolicy, roomForCondition, roomForExclusion, signalInRange, exclusionInRange, thresholdInRange}
-use Rattle.book.specs.Forms.{Form, oldZero, policy, rule, exclusion, condition}
+use Rattle.text.specs.Forms.{Form, oldZero, policy, rule, exclusion, condition}
 use Rattle.book.specs.Acceptance.{BookSoFar, lastPolicy, noCondition, inPlace, inCount, roomForRule, defaultInRange, scoreInRange, mentionsBelow, inRange, excludes, isNew, accept}
 use Rattle.book.specs.Ranges.{signalsOf}
-use Rattle.book.specs.Codes.{HoldsCodes}
+use Rattle.text.specs.Codes.{HoldsCodes}
 use Rattle.book.specs.Judged.{after}
 use Rattle.book.specs.declared.Reason.{Reason}
 use Rattle.book.specs.declared.acceptance.Verdict.the-variants.{Fine, Refused}

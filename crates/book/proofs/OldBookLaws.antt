@@ -14,14 +14,14 @@ use Rattle.answers.proofs.Results.{no-refusal, result-is, required}
 use Rattle.peal.specs.declared.Operator.{Operator}
 use Rattle.peal.specs.declared.Operator.the-variants.{Min, Max, Sum, Mul}
 use Rattle.limits.specs.Limits.{bookFits, lineFits, within}
-use Rattle.book.specs.Text.{bytes, Line, longer, parted, textLines}
-use Rattle.book.specs.Forms.{Form, oldZero, policy, rule, exclusion, condition, form}
+use Rattle.text.specs.Text.{bytes, Line, longer, parted, textLines}
+use Rattle.text.specs.Forms.{Form, oldZero, policy, rule, exclusion, condition, form}
 use Rattle.book.specs.Acceptance.{BookSoFar, noLine, inPlace, inCount, inRange, isNew, defaultInRange, missingDefault, defaultOf, bookWith, opensRules, oldAfter, accept}
 use Rattle.book.specs.Books.{acceptForm, readLine, readLines, read}
 use Rattle.book.specs.Judged.{after}
 use Rattle.book.specs.OldBooks.{readBefore, NoLineOf, AllGiven, lineBelow, bareLine, zeroLine, ZerosWritten, OldBooks}
 use Rattle.book.specs.Computing.{bookComputes}
-use Rattle.book.proofs.TextLaws.{line-before}
+use Rattle.text.proofs.TextLaws.{line-before}
 use Rattle.book.proofs.JudgeLaws.{accept-fine}
 use Rattle.book.proofs.RangeLaws.{passed}
 use Rattle.book.proofs.ReadLaws.{read-lines}

@@ -17,18 +17,19 @@ use Rattle.arith.proofs.Distinct.{at-most, distinct-more}
 use Rattle.arith.proofs.Each.{each-none, each-get, each-more, each-set}
 use Rattle.arith.proofs.Options.{Finds}
 use Rattle.arith.proofs.Tests.{and-left, and-right, clash}
+use Rattle.arith.specs.Trees.{leafCount}
 use Rattle.peal.specs.Policies.{Rule, Policy, Exclusion, Condition, Book, policyAt}
 use Rattle.peal.specs.declared.Operator.{Operator}
 use Rattle.peal.specs.declared.Operator.the-variants.{Min, Max, Sum, Mul}
 use Rattle.limits.specs.Limits.{exclusionInRange}
-use Rattle.book.specs.Text.{Line, textLines}
-use Rattle.book.specs.Forms.{Form, oldZero, policy, rule, exclusion, condition, form}
+use Rattle.text.specs.Text.{Line, textLines}
+use Rattle.text.specs.Forms.{Form, oldZero, policy, rule, exclusion, condition, form}
 use Rattle.book.specs.Acceptance.{BookSoFar, noLine, emptyBook, lastPolicy, inPlace, inCount, roomForRule, within, defaultInRange, scoreInRange, mentionsBelow, inRange, isNew, missingDefault, defaultOf, withRule, withPolicies, withLast, withExclusion, withCondition, bookWith, opensRules, accept}
 use Rattle.book.specs.Books.{acceptForm, readLine, readLines, read}
-use Rattle.book.specs.Ranges.{signalsOf, mentionCount, PolicyInRange, ExclusionInRange, ConditionInRange, BookInRange}
+use Rattle.book.specs.Ranges.{signalsOf, PolicyInRange, ExclusionInRange, ConditionInRange, BookInRange}
 use Rattle.book.specs.Judged.{after}
 use Rattle.book.specs.Taken.{Bounded}
-use Rattle.book.proofs.FormMentions.{FewMentions, form-mentions}
+use Rattle.text.proofs.FormMentions.{FewMentions, form-mentions}
 use Rattle.book.proofs.JudgeLaws.{accept-fine}
 
 -- ---- what an accepted line has passed
@@ -86,7 +87,7 @@ module _ (p : Policy) (h : PolicyInRange p) where
       }
 
 condition-in-range : (n : ℕ) (c : Condition) → (within (negℤ (pos 200000)) (pos 200000) (c .threshold) && mentionsBelow n (c .expression)) ≡ true
-    → mentionCount (c .expression) ≤ 16 → ConditionInRange n c
+    → leafCount (c .expression) ≤ 16 → ConditionInRange n c
 condition-in-range n c h room =
     let t : Bool = within (negℤ (pos 200000)) (pos 200000) (c .threshold) in
     let m : Bool = mentionsBelow n (c .expression) in

@@ -9,8 +9,8 @@ use lib.ListN.{length, drop}
 use Rattle.answers.specs.Answers.{Answer, result, refused, onResult}
 use Rattle.answers.proofs.Results.{no-refusal, result-is, gone-on, passed-up}
 use Rattle.peal.specs.Policies.{Book}
-use Rattle.book.specs.Text.{textLines}
-use Rattle.book.specs.Spelling.{upTo}
+use Rattle.text.specs.Text.{textLines}
+use Rattle.text.specs.Spelling.{upTo}
 use Rattle.book.specs.Acceptance.{BookSoFar, noLine, emptyBook}
 use Rattle.limits.specs.Limits.{bookFits}
 use Rattle.book.specs.Books.{readLine, readLines, read, Counts, checked}
@@ -25,7 +25,7 @@ use Rattle.book.specs.declared.acceptance.Verdict.{Verdict}
 use Rattle.book.specs.declared.acceptance.Verdict.the-variants.{Fine, Refused}
 use Rattle.book.specs.declared.storing.SoFar.{SoFar}
 use Rattle.book.specs.declared.taking.Taken.{Taken}
-use Rattle.book.proofs.TextLaws.{lineTo, line-at, no-line-at}
+use Rattle.text.proofs.TextLaws.{lineTo, line-at, no-line-at}
 use Rattle.book.proofs.RangeLaws.{bounded-start}
 
 -- ---- a taken line, by its verdict

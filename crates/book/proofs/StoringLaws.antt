@@ -12,18 +12,17 @@ use Rattle.answers.specs.Answers.{result}
 use Rattle.answers.proofs.Results.{no-refusal}
 use Rattle.arith.proofs.Order.{le-or-lt}
 use Rattle.signals.specs.Sets.{setOf}
-use Rattle.peal.specs.Policies.{Rule, Policy, Expression, Exclusion, Condition, Book, noRule, noExclusion, policyAt, emptyPolicy}
-use Rattle.peal.specs.Translation.{maskOf}
+use Rattle.peal.specs.Policies.{Rule, Policy, Expression, Exclusion, Condition, Book, noRule, noExclusion, policyAt, emptyPolicy, maskOf}
 use Rattle.peal.specs.declared.Operator.{Operator}
 use Rattle.peal.proofs.MaskLaws.{mask-more}
 use Rattle.book.specs.Acceptance.{emptyBook, lastPolicy, withRule, withPolicies, withLast, withExclusion, withCondition, mentionsBelow}
 use Rattle.book.specs.Books.{conditionAt}
 use Rattle.book.specs.Cells.{operatorCode, senseCode, cell, operatorCell, defaultCell, countCell, maskCell, signalCell, scoreCell, senseCell, thresholdCell, lengthCell, codeCell, exclusionCountCell, firstCell, secondCell, cellCount, PolicyCells, ExclusionCells, ConditionCells, BookCells}
-use Rattle.book.specs.Codes.{codesOf, HoldsCodes}
+use Rattle.text.specs.Codes.{codesOf, HoldsCodes}
 use Rattle.book.specs.Ranges.{BookInRange, ConditionInRange}
-use Rattle.book.proofs.CodeLaws.{mention-below}
+use Rattle.book.proofs.MentionedPolicies.{mention-below}
 use Rattle.book.proofs.ConditionLaws.{condition-within, condition-more, each-condition}
-use Rattle.book.proofs.MentionLaws.{codes-count}
+use Rattle.text.proofs.MentionLaws.{codes-count}
 use Rattle.book.proofs.RangeLaws.{rules-at-most, policy-in-range}
 
 -- ---- where the cells of policy k, of condition k and of its codes begin and end

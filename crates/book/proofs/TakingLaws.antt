@@ -16,9 +16,9 @@ use Rattle.arith.proofs.Tests.{and-left, and-right}
 use Rattle.peal.specs.Policies.{Policy, Condition, Expression}
 use Rattle.peal.specs.declared.Operator.{Operator}
 use Rattle.peal.specs.declared.Sense.{Sense}
-use Rattle.book.specs.Text.{Line}
-use Rattle.book.specs.Expressions.{expression}
-use Rattle.book.specs.Forms.{Form, oldZero, policy, rule, exclusion, condition, form}
+use Rattle.text.specs.Text.{Line}
+use Rattle.text.specs.Expressions.{expression}
+use Rattle.text.specs.Forms.{Form, oldZero, policy, rule, exclusion, condition, form}
 use Rattle.limits.specs.Limits.{lineFits}
 use Rattle.book.specs.Acceptance.{BookSoFar, noLine, lastPolicy, within, scoreInRange, mentionsBelow, inPlace, inCount, inRange, defaultOf, withRule, withPolicies, withLast, withExclusion, withCondition, bookWith, opensRules, oldAfter, accept}
 use Rattle.book.specs.Books.{acceptForm, readLine}
@@ -33,7 +33,7 @@ use Rattle.book.specs.declared.acceptance.Verdict.the-variants.{Fine, Re
 use Rattle.book.specs.declared.storing.SoFar.{SoFar}
 use Rattle.book.specs.declared.taking.Taken.{Taken}
 use Rattle.book.proofs.CellLaws.{book-exclusions}
-use Rattle.book.proofs.FormMentions.{FewMentions}
+use Rattle.text.proofs.FormMentions.{FewMentions}
 use Rattle.book.proofs.RangeLaws.{Passed, passed, policy-in-range, rule-room, exclusion-in-range, accept-bounded}
 
 -- ---- taken lines

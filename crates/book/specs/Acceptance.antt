@@ -14,7 +14,7 @@ use Rattle.peal.specs.declared.Operator.{Operator}
 use Rattle.peal.specs.declared.Operator.the-variants.{Min, Max, Sum, Mul}
 use Rattle.limits.specs.Limits.{roomForPolicy, roomForCondition, roomForExclusion, signalInRange, exclusionInRange, thresholdInRange}
 unfoldable pub use Rattle.limits.specs.Limits.{roomForRule, within, defaultInRange, scoreInRange}
-use Rattle.book.specs.Forms.{Form, oldZero, policy, rule, exclusion, condition}
+use Rattle.text.specs.Forms.{Form, oldZero, policy, rule, exclusion, condition}
 
 -- the book so far, whether the line above is a `p` or an `r`, and whether the first line is an `o`
 pub record BookSoFar : Type 0 where

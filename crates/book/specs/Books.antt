@@ -6,8 +6,8 @@ use lib.ListN.{length}
 use Rattle.answers.specs.Answers.{Answer, result, refused, onResult, require}
 use Rattle.peal.specs.Policies.{Condition, Book}
 use Rattle.limits.specs.Limits.{bookFits, lineFits}
-use Rattle.book.specs.Text.{Line, textLines}
-use Rattle.book.specs.Forms.{Form, form}
+use Rattle.text.specs.Text.{Line, textLines}
+use Rattle.text.specs.Forms.{Form, form}
 use Rattle.book.specs.Acceptance.{BookSoFar, noLine, accept}
 
 -- line n by its form: 2 where it has none, then 3 to 6

@@ -5,15 +5,14 @@ use mathlib.Core.Path.{_≡_}
 use lib.IntN.{ℤ, pos}
 use lib.ListN.{length, getD}
 use Rattle.arith.specs.Lists.{padded}
-use Rattle.peal.specs.Policies.{Rule, Policy, Exclusion, Condition, Book, noRule, noExclusion, policyAt}
-use Rattle.peal.specs.Translation.{maskOf}
+use Rattle.peal.specs.Policies.{Rule, Policy, Exclusion, Condition, Book, noRule, noExclusion, policyAt, maskOf}
 use Rattle.peal.specs.declared.Operator.{Operator}
 use Rattle.peal.specs.declared.Operator.the-variants.{Min, Max, Sum, Mul}
 use Rattle.peal.specs.declared.Sense.{Sense}
 use Rattle.peal.specs.declared.Sense.the-variants.{Above, AtMost}
 use Rattle.answers.specs.Answers.{result}
 use Rattle.book.specs.Books.{conditionAt}
-use Rattle.book.specs.Codes.{codesOf}
+use Rattle.text.specs.Codes.{codesOf}
 use Rattle.book.specs.declared.cells.Policy.{Policy as StoredPolicy}
 
 -- the number of an operator, and of a sense

@@ -10,10 +10,10 @@ use Rattle.answers.specs.Answers.{Answer, result, refused}
 use Rattle.peal.specs.Policies.{Expression}
 use Rattle.peal.specs.declared.Operator.{Operator}
 use Rattle.peal.specs.declared.Sense.{Sense}
-use Rattle.book.specs.Forms.{Form, policy, exclusion, condition}
+use Rattle.text.specs.Forms.{Form, policy, exclusion, condition}
 use Rattle.book.specs.Acceptance.{BookSoFar, defaultInRange, bookWith, opensRules, oldAfter, accept}
 use Rattle.book.specs.Cells.{ExclusionCells}
-use Rattle.book.specs.Codes.{HoldsCodes}
+use Rattle.text.specs.Codes.{HoldsCodes}
 use Rattle.book.specs.Meaning.{reasonNumber}
 use Rattle.book.specs.declared.acceptance.Verdict.{Verdict}
 use Rattle.book.specs.declared.acceptance.Verdict.the-variants.{Fine, Refused}

@@ -1,13 +1,6 @@
-pub mod Text
-pub mod Numbers
-pub mod Expressions
-pub mod Forms
 pub mod Acceptance
 pub mod Books
 pub mod OldBooks
-pub mod Spelling
-pub mod LineMeaning
-pub mod Codes
 pub mod Cells
 pub mod Ranges
 pub mod Meaning

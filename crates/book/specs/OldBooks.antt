@@ -12,8 +12,8 @@ use Rattle.peal.specs.Policies.{Book}
 use Rattle.peal.specs.declared.Operator.{Operator}
 use Rattle.peal.specs.declared.Operator.the-variants.{Min, Mul}
 use Rattle.limits.specs.Limits.{bookFits}
-use Rattle.book.specs.Text.{bytes, Line, textLines}
-use Rattle.book.specs.Forms.{Form, oldZero, policy, operatorWord, form}
+use Rattle.text.specs.Text.{bytes, Line, textLines}
+use Rattle.text.specs.Forms.{Form, oldZero, policy, operatorWord, form}
 use Rattle.book.specs.Acceptance.{emptyBook}
 use Rattle.book.specs.Books.{readLines, read}
 

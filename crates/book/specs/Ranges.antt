@@ -1,5 +1,5 @@
 -- What every accepted book keeps to (document 01, "Ranges" and the limits of "The book"); proved in proofs/RangeLaws.antt.
-use Prim.Native.Nat.{ℕ, _+_, _≤_, _<_}
+use Prim.Native.Nat.{ℕ, _≤_, _<_}
 use mathlib.Core.Bool.{true}
 use mathlib.Core.List.{List, map}
 use mathlib.Core.Path.{_≡_}
@@ -7,8 +7,8 @@ use lib.IntN.{ℤ, pos, negℤ}
 use lib.ListN.{length}
 use Rattle.arith.specs.Lists.{Each, AllBelow, Distinct}
 use Rattle.answers.specs.Answers.{result}
-use Rattle.arith.specs.Trees.{treeValue}
-use Rattle.peal.specs.Policies.{Rule, Policy, MinMax, Expression, Exclusion, Condition, Book}
+use Rattle.arith.specs.Trees.{leafCount}
+use Rattle.peal.specs.Policies.{Rule, Policy, Exclusion, Condition, Book}
 use Rattle.peal.specs.declared.Operator.the-variants.{Mul}
 use Rattle.book.specs.Acceptance.{within, scoreInRange, mentionsBelow}
 use Rattle.book.specs.Books.{conditionAt}
@@ -33,14 +33,10 @@ pub record ExclusionInRange (x : Exclusion) : Type 0 where
   pub second : x .second < 16
   pub apart : x .first ≡ x .second → ⊥
 
--- how many mentions of a policy an expression has
-unfoldable pub mentionCount : Expression → ℕ
-mentionCount e = treeValue (λ (m : MinMax) a b. a + b) (λ n. 1) e
-
 -- T, at most 16 mentions, and those of the first n policies alone
 pub record ConditionInRange (n : ℕ) (c : Condition) : Type 0 where
   pub threshold : within (negℤ (pos 200000)) (pos 200000) (c .threshold) ≡ true
-  pub mentionsRoom : mentionCount (c .expression) ≤ 16
+  pub mentionsRoom : leafCount (c .expression) ≤ 16
   pub mentions : mentionsBelow n (c .expression) ≡ true
 
 -- at most 16 policies, 16 exclusions and 8 conditions, each in range

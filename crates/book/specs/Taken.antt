@@ -11,18 +11,18 @@ use Rattle.answers.specs.Answers.{Answer, result, refused}
 use Rattle.peal.specs.Policies.{Expression}
 use Rattle.peal.specs.declared.Operator.{Operator}
 use Rattle.peal.specs.declared.Sense.{Sense}
-use Rattle.book.specs.Forms.{oldZero, policy, rule, exclusion, condition}
+use Rattle.text.specs.Forms.{oldZero, policy, rule, exclusion, condition}
 use Rattle.book.specs.Acceptance.{BookSoFar, noLine, defaultOf, defaultInRange, accept}
 use Rattle.book.specs.Books.{acceptForm, readLine}
-use Rattle.book.specs.LineMeaning.{lineMeaning}
+use Rattle.text.specs.LineMeaning.{lineMeaning}
 use Rattle.book.specs.Ranges.{BookInRange}
-use Rattle.book.specs.Codes.{HoldsCodes}
+use Rattle.text.specs.Codes.{HoldsCodes}
 use Rattle.book.specs.Cells.{BookCells}
 use Rattle.book.specs.Judged.{Judged, verdictMeaning}
 use Rattle.book.specs.declared.acceptance.Verdict.{Verdict}
 use Rattle.book.specs.declared.acceptance.Verdict.the-variants.{Fine}
-use Rattle.book.specs.declared.lines.Line.{Line}
-use Rattle.book.specs.declared.lines.LineRead.the-variants.{Good}
+use Rattle.text.specs.declared.lines.Line.{Line}
+use Rattle.text.specs.declared.lines.LineRead.the-variants.{Good}
 use Rattle.book.specs.declared.storing.SoFar.{SoFar}
 use Rattle.book.specs.declared.taking.Taken.{Taken}
 

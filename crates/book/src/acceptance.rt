@@ -15,7 +15,7 @@ ghost use Prim.Native.Nat.{_≤_, _<_};
 ghost use lib.Dec.{eqb};
 ghost use Rattle.arith.specs.Lists.{any};
 ghost use Rattle.peal.specs.Policies.{Expression};
-ghost use Rattle.book.specs.Codes.{HoldsCodes};
+ghost use Rattle.text.specs.Codes.{HoldsCodes};
 ghost use Rattle.book.specs.Acceptance.{mentionsBelow, excludes};
 ghost use Rattle.book.specs.Cells.{ForExclusions};
 ghost use Rattle.book.specs.Ranges.{ExclusionsKept};

@@ -3,14 +3,9 @@
 // read the cells of a read book are for the crates above.
 mod acceptance;
 mod cells;
-mod expressions;
-mod lines;
-mod numbers;
 mod reading;
 mod storing;
 mod taking;
-mod text;
-mod words;
 
 ghost use mathlib.Core.Path.{_≡_};
 ghost use Prim.Native.Nat.{_<_};

@@ -9,7 +9,7 @@ use crate::cells::Cells;
 use crate::storing::SoFar;
 use crate::storing::put_nothing;
 use crate::taking::take_line;
-use crate::text::next_byte;
+use text::next_byte;
 ghost use mathlib.Core.Path.{_≡_};
 ghost use Rattle.answers.specs.Answers.{result};
 ghost use Rattle.peal.specs.Policies.{Book as PealBook};

@@ -25,7 +25,7 @@ ghost use mathlib.Core.Path.{_≡_};
 ghost use Prim.Native.Nat.{_+_, _≤_, _<_};
 ghost use lib.ListN.{length};
 ghost use Rattle.peal.specs.Policies.{Condition as PealCondition, Book as PealBook, Expression};
-ghost use Rattle.book.specs.Codes.{HoldsCodes};
+ghost use Rattle.text.specs.Codes.{HoldsCodes};
 ghost use Rattle.book.specs.Acceptance.{emptyBook, withRule, withPolicies, withLast, withExclusion, withCondition, lastPolicy, mentionsBelow};
 ghost use Rattle.book.specs.Cells.{operatorCode, senseCode, BookCells};
 ghost use Rattle.book.specs.Ranges.{PolicyKept, ExclusionsKept, BookInRange};

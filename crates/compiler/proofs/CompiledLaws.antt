@@ -12,7 +12,7 @@ use Rattle.answers.proofs.Results.{result-is, required, gone-on}
 use Rattle.layout.specs.Records.{Record, words}
 use Rattle.layout.proofs.Soundness.{length-words}
 use Rattle.peal.specs.Policies.{Condition, Book}
-use Rattle.peal.specs.Translation.{listingRecords}
+use Rattle.translation.specs.Translation.{listingRecords}
 use Rattle.book.specs.Books.{asked}
 use Rattle.compiler.specs.Compiling.{fitting, compiled, returned, lentAfter, compiledListing}
 use Rattle.compiler.specs.Meaning.{compiledMeaning}

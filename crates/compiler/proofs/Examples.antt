@@ -4,7 +4,7 @@ use mathlib.Core.List.{List, [], _∷_}
 use mathlib.Core.Path.{_≡_, refl}
 use lib.ListN.{length}
 use Rattle.answers.specs.Answers.{Answer, result, refused}
-use Rattle.book.specs.Text.{bytes}
+use Rattle.text.specs.Text.{bytes}
 use Rattle.compiler.specs.Compiling.{compiled, returned, lentAfter}
 use Rattle.compiler.specs.Computing.{compilerComputes}
 

@@ -11,14 +11,15 @@ use lib.Seq.{drop-cons}
 use Rattle.arith.specs.Trees.{leaf, join, Node, value, joining, postfix, mapTree}
 use Rattle.arith.proofs.Order.{le-or-lt}
 use Rattle.layout.specs.Nodes.{ListedNode}
-use Rattle.peal.specs.Policies.{Policy, MinMax, smaller, Expression, Condition, Book, policyAt}
+use Rattle.peal.specs.Policies.{Policy, MinMax, smaller, Expression, Condition, Book, policyAt, maskOf}
 use Rattle.peal.specs.Lines.{lines}
-use Rattle.peal.specs.Translation.{joinOf, maskOf, listed, translated}
+use Rattle.translation.specs.Translation.{joinOf, listed, translated}
 use Rattle.peal.specs.declared.Sense.{Sense}
-use Rattle.book.specs.Codes.{codeOf, codesOf}
+use Rattle.text.specs.Codes.{codeOf, codesOf}
 use Rattle.book.specs.Ranges.{PolicyInRange, ConditionKept}
 use Rattle.book.proofs.RangeLaws.{policy-in-range}
-use Rattle.book.proofs.CodeLaws.{nodeOf, join-code, value-code, codes-nodes, code-node, mention-below}
+use Rattle.text.proofs.CodeLaws.{nodeOf, join-code, value-code, codes-nodes, code-node}
+use Rattle.book.proofs.MentionedPolicies.{mention-below}
 use Rattle.book.proofs.CellLaws.{condition-held, condition-range, same-codes, mention-held, mention-kept}
 use Rattle.compiler.specs.Planning.{ThresholdFits}
 use Rattle.compiler.specs.Nodes.{linesIn, listedNode, nodesOf, nodeAt, LinesKept}

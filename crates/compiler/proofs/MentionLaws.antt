@@ -15,13 +15,13 @@ use Rattle.signals.specs.Sets.{setOf}
 use Rattle.layout.specs.Records.{Record, bit, lineKind, joinKind, policyKind}
 use Rattle.layout.specs.Judgement.{ifAny}
 use Rattle.layout.specs.Nodes.{lineRecords}
-use Rattle.peal.specs.Policies.{MinMax, smaller, larger}
+use Rattle.peal.specs.Policies.{MinMax, smaller, larger, maskOf}
 use Rattle.peal.specs.Lines.{lines}
-use Rattle.peal.specs.Translation.{joinOf, quiet, turned, maskOf, listed}
+use Rattle.translation.specs.Translation.{joinOf, quiet, turned, listed}
 use Rattle.peal.specs.declared.Sense.{Sense}
 use Rattle.peal.specs.declared.Sense.the-variants.{Above, AtMost}
 use Rattle.peal.proofs.LineLaws.{lines-are-few}
-use Rattle.book.specs.Codes.{codeOf}
+use Rattle.text.specs.Codes.{codeOf}
 use Rattle.book.specs.Ranges.{PolicyKept}
 use Rattle.book.proofs.RangeLaws.{rules-at-most}
 use Rattle.compiler.specs.Putting.{putRecord, putRecords, lineAt, linesUpTo}

@@ -10,7 +10,7 @@ use Rattle.signals.specs.Sets.{setOf}
 use Rattle.layout.specs.Records.{exclusionKind}
 use Rattle.layout.specs.Nodes.{exclusionRecords}
 use Rattle.peal.specs.Policies.{Exclusion, noExclusion}
-use Rattle.peal.specs.Translation.{pairMask}
+use Rattle.translation.specs.Translation.{pairMask}
 use Rattle.compiler.specs.Putting.{putRecord, putRecords}
 
 -- the bits of two signals make the mask of their pair

@@ -11,7 +11,7 @@ use Rattle.arith.proofs.Order.{le-or-lt}
 use Rattle.layout.specs.Records.{Record, words}
 use Rattle.layout.proofs.Soundness.{length-words}
 use Rattle.peal.specs.Policies.{Condition, Book}
-use Rattle.peal.specs.Translation.{listingRecords}
+use Rattle.translation.specs.Translation.{listingRecords}
 use Rattle.book.specs.Books.{asked}
 use Rattle.compiler.specs.Compiling.{fitting, compiled, returned, lentAfter}
 use Rattle.compiler.specs.Putting.{putRecord, putRecords}

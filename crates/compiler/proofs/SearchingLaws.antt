@@ -16,12 +16,11 @@ use Rattle.arith.proofs.Order.{leZ-trans}
 use Rattle.arith.proofs.Tests.{and-left, and-right, clash}
 use Rattle.arith.proofs.Whole.{times-one}
 use Rattle.signals.specs.Sets.{setOf}
-use Rattle.peal.specs.Policies.{Rule, Policy, smaller, larger, noRule}
+use Rattle.peal.specs.Policies.{Rule, Policy, smaller, larger, noRule, maskOf}
 use Rattle.peal.specs.Score.{ofTwo}
 use Rattle.peal.specs.Having.{has}
 use Rattle.peal.specs.Lines.{lines}
 use Rattle.peal.specs.Search.{foundFrom, foundSets}
-use Rattle.peal.specs.Translation.{maskOf}
 use Rattle.peal.specs.Combining.{combinedOf}
 use Rattle.peal.specs.declared.Operator.{Operator}
 use Rattle.peal.specs.declared.Operator.the-variants.{Min, Max, Sum, Mul}

@@ -14,7 +14,7 @@ use Rattle.arith.proofs.Order.{le-or-lt}
 use Rattle.layout.specs.Records.{Record}
 use Rattle.layout.specs.Nodes.{ListedNode, nodeRecords, exclusionRecords, listing}
 use Rattle.layout.proofs.WordsBelow.{exclusions-count}
-use Rattle.peal.specs.Translation.{pairMask, listingRecords}
+use Rattle.translation.specs.Translation.{pairMask, listingRecords}
 use Rattle.book.specs.Ranges.{ConditionKept}
 use Rattle.compiler.specs.Putting.{putRecords}
 use Rattle.compiler.specs.Nodes.{linesIn, oneNode, nodesOf, nodeAt}

@@ -5,7 +5,7 @@ use lib.Dec.{leb}
 use lib.ListN.{length, take, drop}
 use Rattle.answers.specs.Answers.{Answer, result, refused, onResult, require}
 use Rattle.layout.specs.Records.{Record, words}
-use Rattle.peal.specs.Translation.{listingRecords}
+use Rattle.translation.specs.Translation.{listingRecords}
 use Rattle.book.specs.Books.{asked}
 
 -- some records, or 8 where they have more words than were lent

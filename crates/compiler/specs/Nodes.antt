@@ -11,9 +11,9 @@ use Rattle.layout.specs.Judgement.{ifAny}
 use Rattle.layout.specs.Nodes.{ListedNode, lineRecords, nodeRecords, exclusionRecords}
 use Rattle.peal.specs.Policies.{Policy, MinMax, smaller, Condition, Book, policyAt}
 use Rattle.peal.specs.Lines.{lines}
-use Rattle.peal.specs.Translation.{joinOf, listed, translated, pairMask}
+use Rattle.translation.specs.Translation.{joinOf, listed, translated, pairMask}
 use Rattle.book.specs.Ranges.{PolicyInRange, ConditionKept}
-use Rattle.book.specs.Codes.{codesOf}
+use Rattle.text.specs.Codes.{codesOf}
 use Rattle.book.specs.Cells.{PolicyCells, ForExclusions}
 use Rattle.compiler.specs.Planning.{ThresholdFits}
 use Rattle.compiler.specs.Putting.{putRecords}

@@ -5,8 +5,7 @@ use mathlib.Core.List.{List, [], _∷_, map}
 use lib.Dec.{eqb, leb}
 use lib.ListN.{length, set}
 use Rattle.layout.specs.Records.{Record, lineKind}
-use Rattle.peal.specs.Policies.{Rule}
-use Rattle.peal.specs.Translation.{maskOf}
+use Rattle.peal.specs.Policies.{Rule, maskOf}
 
 -- record r written as record n, which counts from 1, where there is room for it
 unfoldable pub putRecord : List ℕ → ℕ → Record → List ℕ

@@ -5,11 +5,10 @@ use mathlib.Core.List.{List, _++_}
 use mathlib.Core.Path.{_≡_}
 use lib.IntN.{ℤ}
 use lib.ListN.{length}
-use Rattle.peal.specs.Policies.{Rule, Policy}
+use Rattle.peal.specs.Policies.{Rule, Policy, maskOf}
 use Rattle.peal.specs.Lines.{lines}
 use Rattle.peal.specs.Having.{has}
 use Rattle.peal.specs.Search.{foundFrom}
-use Rattle.peal.specs.Translation.{maskOf}
 use Rattle.peal.specs.declared.Operator.{Operator}
 use Rattle.book.specs.Ranges.{PolicyInRange}
 use Rattle.book.specs.Cells.{storedPolicy}

@@ -5,7 +5,7 @@ ghost use mathlib.Core.Path.{_≡_};
 ghost use Prim.Native.Nat.{_<_};
 ghost use lib.ListN.{length, getD};
 ghost use Rattle.peal.specs.Policies.{noExclusion};
-ghost use Rattle.peal.specs.Translation.{pairMask};
+ghost use Rattle.translation.specs.Translation.{pairMask};
 ghost use Rattle.book.specs.Cells.{ForExclusions};
 ghost use Rattle.book.specs.Ranges.{ExclusionsKept};
 ghost use Rattle.compiler.specs.Nodes.{ExclusionsPut};

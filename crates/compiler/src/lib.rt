@@ -11,7 +11,7 @@ use nodes::count_records;
 use nodes::put_nodes;
 ghost use mathlib.Core.Path.{_≡_};
 ghost use lib.ListN.{length};
-ghost use Rattle.peal.specs.Translation.{listingRecords};
+ghost use Rattle.translation.specs.Translation.{listingRecords};
 ghost use Rattle.book.specs.Ranges.{ConditionKept};
 ghost use Rattle.compiler.specs.Compiling.{fitting, compiled, returned, lentAfter};
 ghost use Rattle.compiler.specs.Meaning.{compiledMeaning};

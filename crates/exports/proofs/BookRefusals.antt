@@ -9,9 +9,9 @@ use lib.ListN.{length}
 use borrow.Author.Tests.{leb-true}
 use Rattle.layout.specs.Records.{words}
 use Rattle.peal.specs.Policies.{Condition}
-use Rattle.peal.specs.Translation.{listingRecords}
-use Rattle.book.specs.Text.{Line, longer, parted, asLines, textLines}
-use Rattle.book.specs.Forms.{Form, form}
+use Rattle.translation.specs.Translation.{listingRecords}
+use Rattle.text.specs.Text.{Line, longer, parted, asLines, textLines}
+use Rattle.text.specs.Forms.{Form, form}
 use Rattle.book.specs.Acceptance.{BookSoFar, noLine, inPlace, inCount, inRange, isNew, accept}
 use Rattle.book.specs.Books.{acceptForm, readLine, readLines, read, checked, conditionAt, asked}
 use Rattle.score.specs.Decisions.{scoredAnswer}

@@ -8,7 +8,6 @@ use Rattle.arith.proofs.Order.{ltZ-not, leZ-refl, scale-scale}
 use Rattle.signals.specs.Sets.{present}
 use Rattle.peal.specs.Policies.{Policy}
 use Rattle.peal.specs.Score.{scaled, presentRules, total, product, scaledProduct, ofAll, applied, scoreOf, policyScore, meets}
-use Rattle.peal.specs.Translation.{quiet}
 use Rattle.peal.specs.declared.Operator.{Operator}
 use Rattle.peal.specs.declared.Operator.the-variants.{Min, Max, Sum, Mul}
 use Rattle.peal.specs.declared.Sense.{Sense}
@@ -39,8 +38,3 @@ module _ (d : ℤ) (signal : ℕ) (v : ℤ) (set : ℕ) (here : present set sign
 
   pub at-threshold : (op : Operator) (s : Sense) → meets s v (policyScore set (single op d signal v)) ≡ equalMeets s
   at-threshold op s = ap (meets s v) (single-score op) ∙ equal-meets s v
-
--- and so does a default
-pub quiet-at-threshold : (p : Policy) (s : Sense) → quiet s (p .default) p ≡ equalMeets s
-unfolding quiet
-quiet-at-threshold p s = equal-meets s (p .default)

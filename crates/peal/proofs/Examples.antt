@@ -3,12 +3,11 @@ use Prim.Native.Nat.{ℕ}
 use mathlib.Core.List.{List, [], _∷_, map}
 use mathlib.Core.Path.{_≡_, refl}
 use lib.IntN.{ℤ, pos, negsuc}
-use Rattle.peal.specs.Policies.{Rule}
+use Rattle.peal.specs.Policies.{Rule, maskOf}
 use Rattle.peal.specs.Ranking.{ranked}
 use Rattle.peal.specs.Ranks.{rank}
 use Rattle.peal.specs.Lines.{sumAbove, productAtMost, lines}
 use Rattle.peal.specs.Search.{foundFrom, foundSets}
-use Rattle.peal.specs.Translation.{maskOf}
 use Rattle.peal.specs.Computing.{pealComputes}
 use Rattle.peal.specs.declared.Operator.{Operator}
 use Rattle.peal.specs.declared.Operator.the-variants.{Min, Max, Sum, Mul}

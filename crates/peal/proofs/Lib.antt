@@ -12,8 +12,6 @@ pub mod HavingLaws
 pub mod KeptLaws
 pub mod SingleLaws
 pub mod LineLaws
-pub mod RecordCount
 pub mod TwoLaws
-pub mod MeetingLaws
 pub mod InsideLaws
 pub mod MaskLaws

@@ -1,4 +1,4 @@
--- Masks say which rules are present; and the record of a mention fits a sound listing.
+-- Masks say which rules are present; and each line's mask lies inside its policy's.
 use Prim.Native.Nat.{ℕ, _+_, _≤_, _<_}
 use mathlib.Core.Bool.{true}
 use mathlib.Core.List.{List, [], _∷_, _++_, map, map-append, Permᴰ·symm, Permᴰ·map}
@@ -8,22 +8,19 @@ use lib.IntN.{ℤ}
 use Rattle.arith.specs.Lists.{any, Each}
 use Rattle.arith.proofs.AnyEvery.{any-same, any-map, every-map}
 use Rattle.arith.proofs.DistinctLists.{distinct-reordered, distinct-inside, inside-map}
-use Rattle.arith.proofs.Members.{each-in, every-each, each-every}
+use Rattle.arith.proofs.Members.{every-each, each-every}
 use Rattle.arith.proofs.Reordering.{each-reordered}
 use Rattle.arith.proofs.Sublists.{each-inside}
 use Rattle.signals.specs.Sets.{present, inside, setOf}
 use Rattle.signals.proofs.SetOfLaws.{set-below, inside-set, overlap-set, inside-self}
-use Rattle.layout.specs.WellFormed.{LinesFit, PolicyFits}
-use Rattle.peal.specs.Policies.{Rule, Policy}
+use Rattle.peal.specs.Policies.{Rule, maskOf}
 use Rattle.peal.specs.Ranking.{ranked}
 use Rattle.peal.specs.Lines.{lines}
-use Rattle.peal.specs.Translation.{maskOf, listed}
 use Rattle.peal.specs.SetsOfRules.{SetInside, Among}
 use Rattle.peal.specs.Having.{has}
 use Rattle.peal.specs.Presence.{allPresent, somePresent}
 use Rattle.peal.specs.MasksDecide.{SignalsFit, MasksDecide}
 use Rattle.peal.specs.declared.Operator.{Operator}
-use Rattle.peal.specs.declared.Sense.{Sense}
 use Rattle.peal.proofs.MinimalSets.{minimal-sets}
 use Rattle.peal.proofs.RankLaws.{ranked-reordered}
 use Rattle.peal.proofs.SingleLaws.{lines-minimal}
@@ -65,19 +62,14 @@ module _ (o : Operator) (t : ℤ) (rules : List Rule) where
         any-map maskOf (λ l. inside l set) (lines o t rules)
         ∙ any-same (λ L. inside (maskOf L) set) (allPresent set) (lines o t rules) (λ L m. masks-decide L set (line-fits L m) .0)
 
--- ---- the record of a mention fits
+-- ---- each line's mask is a signal set inside the policy's mask
 
-mask-fits : (X : List Rule) → SignalsFit X → maskOf X ≤ 65535
+pub mask-fits : (X : List Rule) → SignalsFit X → maskOf X ≤ 65535
 unfolding maskOf
 mask-fits X h = omega (arith, set-below 16 (map signalOf X) (h .below) (h .different))
 
--- a line's mask is a signal set inside the policy's mask
-abbrev MaskFits : ℕ → List Rule → Type 0
+abbrev pub MaskFits : ℕ → List Rule → Type 0
 MaskFits mask L = (maskOf L ≤ 65535) × (inside (maskOf L) mask ≡ true)
-
-lines-fit : (mask : ℕ) (ls : List (List Rule)) → Each (MaskFits mask) ls → LinesFit mask (map maskOf ls)
-lines-fit mask [] h = tt
-lines-fit mask (L ∷ ls) h = (h .0 .0, h .0 .1, lines-fit mask ls (h .1))
 
 module _ (o : Operator) (t : ℤ) (rules : List Rule) (h : SignalsFit rules) where
   -- a rule is present in the policy's mask
@@ -90,20 +82,13 @@ module _ (o : Operator) (t : ℤ) (rules : List Rule) (h : SignalsFit rules) whe
       each-reordered InMask (Permᴰ·symm (ranked-reordered o rules))
       (each-every (λ r. present (maskOf rules) (r .signal)) rules (sym (masks-decide rules (maskOf rules) h .0) ∙ inside-self (maskOf rules)))
 
-  mask-of-line : (L : List Rule) → Among L (lines o t rules) → MaskFits (maskOf rules) L
+  pub mask-of-line : (L : List Rule) → Among L (lines o t rules) → MaskFits (maskOf rules) L
   unfolding allPresent
   mask-of-line L m =
       let fits = line-fits o t rules h L m in (
         mask-fits L fits,
         masks-decide L (maskOf rules) fits .0 ∙ every-each (λ r. present (maskOf rules) (r .signal)) L (each-inside InMask (line-inside o t rules L m) rules-in-mask),
       )
-
-  masks-fit : LinesFit (maskOf rules) (map maskOf (lines o t rules))
-  masks-fit = lines-fit (maskOf rules) (lines o t rules) (each-in (MaskFits (maskOf rules)) (lines o t rules) mask-of-line)
-
-pub listed-fits : (s : Sense) (t : ℤ) (p : Policy) → SignalsFit (p .rules) → PolicyFits (listed s t p)
-unfolding listed
-listed-fits s t p h = record { maskFits = mask-fits (p .rules) h; linesFit = masks-fit (p .operator) t (p .rules) h }
 
 -- ---- one rule more
 

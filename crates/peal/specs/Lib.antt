@@ -3,7 +3,6 @@ pub mod Score
 pub mod Combining
 pub mod Ranking
 pub mod Lines
-pub mod Translation
 pub mod Computing
 pub mod SetsOfRules
 pub mod Having
@@ -16,10 +15,7 @@ pub mod LinesAreMinimal
 pub mod LinesAreSingle
 pub mod EachRuleIsALine
 pub mod LinesAreFew
-pub mod RecordsAreFew
 pub mod Presence
-pub mod MeetingIsHaving
-pub mod QuietIsMeeting
 pub mod MinimalSetsDecide
 pub mod OrderDoesNotMatter
 pub mod LinesDecide

@@ -4,8 +4,7 @@ use mathlib.Core.List.{List, map}
 use mathlib.Core.Path.{_≡_}
 use Rattle.arith.specs.Lists.{AllBelow, Distinct}
 use Rattle.signals.specs.Sets.{inside, overlap}
-use Rattle.peal.specs.Policies.{Rule}
-use Rattle.peal.specs.Translation.{maskOf}
+use Rattle.peal.specs.Policies.{Rule, maskOf}
 use Rattle.peal.specs.Presence.{allPresent, somePresent}
 
 -- the signals of some rules are 0 to 15, and all different

@@ -1,9 +1,10 @@
 -- Policies, expressions and conditions (document 01, "The book"). Scores and thresholds are hundredths of a unit.
 use Prim.Native.Nat.{ℕ}
-use mathlib.Core.List.{List, []}
+use mathlib.Core.List.{List, [], map}
 use lib.IntN.{ℤ, pos}
 use lib.ListN.{getD}
 use Rattle.arith.specs.Trees.{Tree}
+use Rattle.signals.specs.Sets.{setOf}
 use Rattle.peal.specs.declared.Operator.{Operator}
 use Rattle.peal.specs.declared.Operator.the-variants.{Min}
 use Rattle.peal.specs.declared.Sense.{Sense}
@@ -12,6 +13,10 @@ use Rattle.peal.specs.declared.Sense.{Sense}
 pub record Rule : Type 0 where
   pub signal : ℕ
   pub score : ℤ
+
+-- the signals of some rules, as a set
+unfoldable pub maskOf : List Rule → ℕ
+maskOf rules = setOf (map (λ (r : Rule). r .signal) rules)
 
 -- OP, D and the rules in book order
 pub record Policy : Type 0 where

@@ -18,7 +18,7 @@ use Rattle.rod.specs.Reading.{policyValue, remaining, reading, says, rodAnswer}
 use Rattle.peal.specs.Policies.{Policy, MinMax, Condition, policyAt}
 use Rattle.peal.specs.MasksDecide.{SignalsFit}
 use Rattle.peal.proofs.OrderLaws.{Once}
-use Rattle.book.specs.Text.{bytes}
+use Rattle.text.specs.Text.{bytes}
 use Rattle.book.proofs.AskedLaws.{asked-in-range}
 use Rattle.compiler.specs.Compiling.{compiled, returned, lentAfter, compiledListing}
 use Rattle.compiler.specs.declared.Compiled.the-variants.{Records}

@@ -5,7 +5,7 @@ use mathlib.Core.Bool.{true, false}
 use mathlib.Core.Path.{_≡_, refl}
 use lib.IntN.{ℤ, pos, negsuc}
 use Rattle.answers.specs.Answers.{Answer, result, refused}
-use Rattle.book.specs.Text.{bytes}
+use Rattle.text.specs.Text.{bytes}
 use Rattle.score.specs.Decisions.{scoredAnswer}
 use Rattle.score.specs.Shown.{shown, shownAnswer}
 use Rattle.score.specs.declared.exact.Exact.{Exact}

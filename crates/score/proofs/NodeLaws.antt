@@ -12,8 +12,8 @@ use Rattle.arith.specs.Trees.{Node, value, joining, postfix, LeavesOne, taken, 
 use Rattle.arith.proofs.Trees.{run-tree, tree-leaves-one, few-values}
 use Rattle.peal.specs.Policies.{Policy, MinMax, smaller, larger, Expression, policyAt}
 use Rattle.peal.specs.Score.{ofTwo, policyScore, score}
-use Rattle.book.specs.Codes.{codeOf, codesOf}
-use Rattle.book.proofs.CodeLaws.{nodeOf, join-code, value-code, codes-nodes, code-node}
+use Rattle.text.specs.Codes.{codeOf, codesOf}
+use Rattle.text.proofs.CodeLaws.{nodeOf, join-code, value-code, codes-nodes, code-node}
 use Rattle.score.specs.Pairs.{Is, choiceMeaning}
 use Rattle.score.specs.ExpressionScores.{noScore, HeldBelow, Holds, Underway}
 use Rattle.score.specs.declared.exact.Exact.{Exact}

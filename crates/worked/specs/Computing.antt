@@ -11,7 +11,7 @@ use Rattle.rod.specs.Traversing.{traversed}
 use Rattle.checks.specs.Checks.{Chosen, chosen}
 use Rattle.peal.specs.Policies.{policyAt}
 use Rattle.peal.specs.Score.{policyScore}
-use Rattle.book.specs.Text.{bytes}
+use Rattle.text.specs.Text.{bytes}
 use Rattle.book.specs.Books.{read}
 use Rattle.score.specs.Decisions.{scoredAnswer}
 use Rattle.score.specs.Shown.{shownAnswer}

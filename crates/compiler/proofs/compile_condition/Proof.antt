@@ -7,7 +7,7 @@ use borrow.Author.Needs.{needs}
 use denote.Ref.{now}
 use Rattle.answers.specs.Answers.{result}
 use Rattle.layout.specs.Nodes.{nodeRecords}
-use Rattle.peal.specs.Translation.{listingRecords}
+use Rattle.translation.specs.Translation.{listingRecords}
 use Rattle.book.proofs.CellLaws.{exclusions-kept}
 use Rattle.compiler.specs.Putting.{putRecords}
 use Rattle.compiler.specs.Nodes.{nodesOf}

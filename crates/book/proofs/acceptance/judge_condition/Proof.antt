@@ -4,7 +4,7 @@ use mathlib.Core.Path.{_≡_, sym, ap, _∙_}
 use mir.Syntax.{w32}
 use mir.ValLaws.{toZ-ofZ}
 use Rattle.limits.specs.Limits.{roomForCondition, thresholdInRange}
-use Rattle.book.specs.Forms.{condition}
+use Rattle.text.specs.Forms.{condition}
 use Rattle.book.proofs.JudgeLaws.{accept-4, accept-5, accept-fine, not-fine, condition-placed, condition-counted, threshold-out, condition-range, condition-new}
 use borrow.Author.Tests.{ltb-true, not-true, not-false}
 use borrow.Author.Needs.{needs}

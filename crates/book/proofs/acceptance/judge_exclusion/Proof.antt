@@ -5,7 +5,7 @@ use mathlib.Core.Path.{_≡_, sym, _∙_}
 use borrow.Author.Tests.{not-true, not-false}
 use denote.Ref.{now}
 use lib.ListN.{length}
-use Rattle.book.specs.Forms.{exclusion}
+use Rattle.text.specs.Forms.{exclusion}
 use Rattle.book.specs.Acceptance.{BookSoFar, inPlace, inCount, inRange}
 use Rattle.book.specs.Cells.{ExclusionCells}
 use Rattle.book.proofs.JudgeLaws.{accept-3, accept-4, accept-5, accept-6, accept-fine, exclusion-placed, exclusion-misplaced, exclusion-counted, exclusion-range, exclusion-new}

@@ -2,7 +2,7 @@
 use mathlib.Core.Bool.{true, false}
 use mathlib.Core.Path.{_≡_, sym, _∙_}
 use Rattle.limits.specs.Limits.{roomForPolicy}
-use Rattle.book.specs.Forms.{policy}
+use Rattle.text.specs.Forms.{policy}
 use Rattle.book.proofs.JudgeLaws.{accept-3, accept-4, accept-5, accept-fine, not-fine, policy-placed, policy-misplaced, policy-counted, policy-range, policy-new}
 use borrow.Author.Tests.{ltb-true, not-true, not-false}
 use borrow.Author.Needs.{needs}

@@ -6,7 +6,7 @@ use denote.Ref.{now}
 use mir.Syntax.{w32}
 use mir.ValLaws.{toZ-ofZ}
 use Rattle.limits.specs.Limits.{signalInRange}
-use Rattle.book.specs.Forms.{rule}
+use Rattle.text.specs.Forms.{rule}
 use Rattle.book.specs.Acceptance.{BookSoFar, lastPolicy, inPlace, inCount, inRange, isNew, scoreInRange}
 use Rattle.book.specs.Ranges.{PolicyKept}
 use Rattle.book.specs.Taken.{Holds}

@@ -8,8 +8,8 @@ use lib.ListN.{take, drop}
 use Rattle.arith.specs.Lists.{every}
 use Rattle.peal.specs.Policies.{Expression}
 use Rattle.book.specs.Acceptance.{mentionsBelow}
-use Rattle.book.specs.Codes.{HoldsCodes}
-use Rattle.book.proofs.CodeLaws.{held-below}
+use Rattle.text.specs.Codes.{HoldsCodes}
+use Rattle.book.proofs.MentionedPolicies.{held-below}
 use Rattle.book.proofs.JudgeLaws.{all-further, all-not, all-end}
 use Rattle.book.proofs.acceptance.mentions_below.Statement.{statement}
 use Rattle.book.proofs.acceptance.mentions_below.Tie as tie

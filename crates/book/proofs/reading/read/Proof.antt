@@ -10,7 +10,7 @@ use denote.Ref.{now}
 use lib.ListN.{length}
 use Rattle.limits.specs.Limits.{bookFits}
 use Rattle.book.specs.declared.Reason.the-variants.{TooLong}
-use Rattle.book.proofs.TextLaws.{end-within}
+use Rattle.text.proofs.TextLaws.{end-within}
 use Rattle.book.proofs.ReadLaws.{Going, start, going-refused, going-on, tells-refusal, tells-book, read-too-long}
 use Rattle.book.proofs.reading.read.Statement.{statement}
 use Rattle.book.proofs.reading.read.Tie as tie

@@ -6,12 +6,12 @@ use mir.Syntax.{w32}
 use mir.ValLaws.{toZ-ofZ}
 use Rattle.peal.specs.Policies.{Expression}
 use Rattle.book.specs.Acceptance.{BookSoFar}
-use Rattle.book.specs.Codes.{HoldsCodes}
-use Rattle.book.specs.Forms.{condition}
+use Rattle.text.specs.Codes.{HoldsCodes}
+use Rattle.text.specs.Forms.{condition}
 use Rattle.book.specs.Judged.{Judged}
 use Rattle.book.specs.Taken.{Holds}
 use Rattle.book.specs.declared.acceptance.Verdict.{Verdict}
-use Rattle.book.proofs.MentionLaws.{codes-count}
+use Rattle.text.proofs.MentionLaws.{codes-count}
 use Rattle.book.proofs.TakingLaws.{taken-fine, taken-refused, judged-as, condition-judged-at, kept-opened, kept-asked, condition-left, condition-cells, fine-mentions}
 use borrow.Author.Needs.{needs}
 use Rattle.book.proofs.taking.take_condition.Statement.{statement}

@@ -2,7 +2,7 @@
 use mathlib.Core.Path.{_≡_, refl}
 use denote.Ref.{now}
 use Rattle.book.specs.Acceptance.{BookSoFar}
-use Rattle.book.specs.Forms.{exclusion}
+use Rattle.text.specs.Forms.{exclusion}
 use Rattle.book.specs.Judged.{Judged}
 use Rattle.book.specs.Taken.{Holds}
 use Rattle.book.specs.declared.acceptance.Verdict.{Verdict}

@@ -8,10 +8,10 @@ use mir.Val.{SFits, toZ, ofZ}
 use mir.ValLaws.{toZ-ofZ}
 use denote.Ref.{now}
 use Rattle.book.specs.Acceptance.{missingDefault, defaultOf, defaultInRange}
-use Rattle.book.specs.LineMeaning.{lineMeaning, StartIn}
-use Rattle.book.specs.declared.lines.Line.{Line}
-use Rattle.book.specs.declared.lines.LineRead.the-variants.{Good}
-use Rattle.book.proofs.ExpressionLaws.{expression-found, expression-not-found}
+use Rattle.text.specs.LineMeaning.{lineMeaning, StartIn}
+use Rattle.text.specs.declared.lines.Line.{Line}
+use Rattle.text.specs.declared.lines.LineRead.the-variants.{Good}
+use Rattle.text.proofs.ExpressionLaws.{expression-found, expression-not-found}
 use Rattle.book.proofs.TakingLaws.{kept-old, taken-form, taken-none, with-expression, with-none, taken-rule-at, taken-condition-at}
 use borrow.Author.Needs.{needs}
 use Rattle.book.proofs.taking.take_form.Statement.{statement}

@@ -4,7 +4,7 @@ use mathlib.Core.Option.{none}
 use mathlib.Core.Path.{_≡_, refl, sym, ap, subst, _∙_}
 use lib.ListN.{length}
 use Rattle.limits.specs.Limits.{lineFits}
-use Rattle.book.specs.LineMeaning.{lineMeaning, StartIn}
+use Rattle.text.specs.LineMeaning.{lineMeaning, StartIn}
 use Rattle.book.proofs.TakingLaws.{taken-long, taken-open, taken-read, taken-none}
 use borrow.Author.Tests.{leb-true, not-true, not-false}
 use borrow.Author.Needs.{needs}

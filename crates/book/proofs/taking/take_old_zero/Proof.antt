@@ -4,7 +4,7 @@ use mathlib.Core.Path.{refl}
 use borrow.Author.Tests.{not-true, not-false}
 use borrow.Author.Needs.{needs}
 use Rattle.book.specs.Acceptance.{bookWith}
-use Rattle.book.specs.Forms.{oldZero}
+use Rattle.text.specs.Forms.{oldZero}
 use Rattle.book.specs.Judged.{after}
 use Rattle.book.proofs.JudgeLaws.{accept-3, old-zero-placed, old-zero-fine}
 use Rattle.book.proofs.TakingLaws.{taken-fine, taken-refused, old-zero-left}

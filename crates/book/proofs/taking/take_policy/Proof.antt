@@ -3,7 +3,7 @@ use mathlib.Core.Path.{refl, _∙_}
 use native.Mathlib.Omega.{arith}
 use mir.Syntax.{w32}
 use mir.ValLaws.{toZ-ofZ}
-use Rattle.book.specs.Forms.{policy}
+use Rattle.text.specs.Forms.{policy}
 use Rattle.book.proofs.TakingLaws.{taken-fine, taken-refused, judged-as, kept-opened, kept-asked, policy-left, policy-cells}
 use borrow.Author.Needs.{needs}
 use Rattle.book.proofs.taking.take_policy.Statement.{statement}

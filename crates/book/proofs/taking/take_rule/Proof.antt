@@ -6,7 +6,7 @@ use denote.Ref.{now}
 use mir.Syntax.{w32}
 use mir.ValLaws.{toZ-ofZ}
 use Rattle.book.specs.Acceptance.{BookSoFar}
-use Rattle.book.specs.Forms.{rule}
+use Rattle.text.specs.Forms.{rule}
 use Rattle.book.specs.Judged.{Judged}
 use Rattle.book.specs.Taken.{Holds}
 use Rattle.book.specs.declared.acceptance.Verdict.{Verdict}

@@ -1,7 +1,7 @@
 -- `compiler::nodes::is_turned`: a sense and an operator at a time.
 use mathlib.Core.Path.{sym, ap₂}
 use borrow.Author.Needs.{needs}
-use Rattle.peal.specs.Translation.{turned}
+use Rattle.translation.specs.Translation.{turned}
 use Rattle.compiler.proofs.nodes.is_turned.Statement.{statement}
 use Rattle.compiler.proofs.nodes.is_turned.Tie as tie
 

@@ -2,7 +2,7 @@
 use mathlib.Core.Path.{sym, ap, _∙_}
 use borrow.Author.Needs.{needs}
 use Rattle.layout.specs.Records.{joinKind}
-use Rattle.peal.specs.Translation.{joinOf}
+use Rattle.translation.specs.Translation.{joinOf}
 use Rattle.peal.specs.declared.Sense.{Sense}
 use Rattle.compiler.proofs.MentionLaws.{above-kind, at-most-kind}
 use Rattle.compiler.proofs.nodes.join_kind.Statement.{statement}

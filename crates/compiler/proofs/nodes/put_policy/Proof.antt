@@ -12,7 +12,7 @@ use mir.ValLaws.{toZ-ofZ}
 use Rattle.layout.specs.Records.{policyKind}
 use Rattle.peal.specs.Lines.{lines}
 use Rattle.peal.specs.Score.{scaled, meets}
-use Rattle.peal.specs.Translation.{quiet, turned}
+use Rattle.translation.specs.Translation.{quiet, turned}
 use Rattle.compiler.specs.Nodes.{LinesKept}
 use Rattle.compiler.specs.Planning.{ThresholdFits}
 use Rattle.compiler.specs.Putting.{putSets}

@@ -10,10 +10,10 @@ use lib.Dec.{eqb}
 use lib.ListN.{length, set, drop}
 use Rattle.arith.specs.Trees.{value, joining, postfix}
 use Rattle.peal.specs.Policies.{Policy, Expression}
-use Rattle.book.specs.Codes.{codesOf}
+use Rattle.text.specs.Codes.{codesOf}
 use Rattle.book.specs.Ranges.{ConditionKept}
 use Rattle.book.proofs.CellLaws.{condition-held, codes-few, mention-held, mention-kept}
-use Rattle.book.proofs.CodeLaws.{codes-nodes}
+use Rattle.text.proofs.CodeLaws.{codes-nodes}
 use Rattle.score.specs.Pairs.{choiceMeaning}
 use Rattle.score.specs.ExpressionScores.{noScore, Underway}
 use Rattle.score.specs.declared.exact.Exact.{Exact}

@@ -1,0 +1,96 @@
+-- `text::lines::four_fields`: the tests are those of the definition, in its order; fields that are read are not empty.
+use mathlib.Core.Path.{_≡_, sym, ap, _∙_}
+use native.Mathlib.Omega.{arith}
+use mir.Syntax.{w32}
+use mir.Val.{toZ, ofZ}
+use borrow.Author.Needs.{needs}
+use denote.Ref.{now}
+use Rattle.text.specs.Text.{bytes}
+use Rattle.text.specs.Forms.{conditionLine, formOf}
+use Rattle.text.specs.Spelling.{numberMeaning, senseMeaning}
+use Rattle.text.proofs.TextLaws.{is-length}
+use Rattle.text.proofs.LineLaws.{number-length, sense-length}
+use Rattle.text.proofs.lines.four_fields.Statement.{statement}
+use Rattle.text.proofs.lines.four_fields.Tie as tie
+
+slice-aggregate-same : tie.Need-slice-aggregate-same
+slice-aggregate-same c = search needs
+
+same-requires : tie.Need-same-requires
+same-requires c κs = search needs
+
+read-number-requires : tie.Need-read-number-requires
+read-number-requires c κs = search needs
+
+enum-known-threshold : tie.Need-enum-known-threshold
+enum-known-threshold c = search needs
+
+enum-told : tie.Need-enum-told
+enum-told c = search needs
+
+returns : tie.Need-returns
+unfolding formOf conditionLine
+returns c =
+    let read = c .before .before in
+    let k = read .before in
+    λ line h l. (rw (sym (k .before .same .ensures) ∙ k .if1 .taken, sym (read .read-number .ensures) ∙ ap numberMeaning (c .enum-told .given .1)), tt)
+
+read-sense-requires : tie.Need-read-sense-requires
+read-sense-requires c κs = search needs
+
+enum-known-sense : tie.Need-enum-known-sense
+enum-known-sense c = search needs
+
+enum-told-2 : tie.Need-enum-told-2
+enum-told-2 c = search needs
+
+returns-2 : tie.Need-returns-2
+unfolding formOf conditionLine
+returns-2 c =
+    let read-2 = c .before .before in
+    let found = read-2 .before .before in
+    let read = found .before .before in
+    let k = read .before in
+    λ line h l. (
+      rw (sym (k .before .same .ensures) ∙ k .if1 .taken, sym (read .read-number .ensures) ∙ ap numberMeaning (found .threshold .given .1), sym (read-2 .read-sense .ensures) ∙ ap senseMeaning (c .enum-told2 .given .1)),
+      tt,
+    )
+
+returns-3 : tie.Need-returns-3
+unfolding formOf conditionLine
+returns-3 c =
+    let found-2 = c .before in
+    let read-2 = found-2 .before .before in
+    let found = read-2 .before .before in
+    let read = found .before .before in
+    let k = read .before in
+    let args = k .before .before .before .before .before .before .args in
+    let z : toZ w32 (ofZ w32 (found .threshold .given .0 .0)) ≡ found .threshold .given .0 .0 = search needs in
+    let kind = sym (k .before .same .ensures) ∙ k .if1 .taken in
+    let threshold = sym (read .read-number .ensures) ∙ ap numberMeaning (found .threshold .given .1) in
+    let sense = sym (read-2 .read-sense .ensures) ∙ ap senseMeaning (found-2 .sense .given .1) in
+    λ line h l. (
+      rw (z, kind, threshold, sense),
+      omega (arith, is-length (bytes "c") (now (args .kind)) kind, number-length (now (args .second)) _ threshold, sense-length (now (args .third)) _ sense),
+    )
+
+returns-4 : tie.Need-returns-4
+unfolding formOf
+returns-4 c = λ line h l. (rw (sym (c .before .same .ensures) ∙ c .if1 .left), tt)
+
+pub four-fields-spec : {M : Type 1} → statement M
+four-fields-spec =
+    tie.close
+    (tie.spec
+    slice-aggregate-same
+    same-requires
+    read-number-requires
+    enum-known-threshold
+    enum-told
+    returns
+    read-sense-requires
+    enum-known-sense
+    enum-told-2
+    returns-2
+    returns-3
+    returns-4)

@@ -1,0 +1,14 @@
+// The text of a book: bytes, lines, fields, numbers, expressions, and the forms that a line may have.
+// The functions are for the crate `book`: each call is proved to meet its condition.
+mod bytes;
+mod expressions;
+mod lines;
+mod numbers;
+mod words;
+
+pub use bytes::next_byte;
+pub use expressions::Parse;
+pub use expressions::read_expression;
+pub use lines::Line;
+pub use lines::LineRead;
+pub use lines::read_line;

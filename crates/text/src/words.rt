@@ -1,0 +1,47 @@
+// Fields that are words: operators and senses.
+ghost use mathlib.Core.Path.{_≡_};
+ghost use Rattle.text.specs.Forms.{operator, sense};
+ghost use Rattle.text.specs.Spelling.{operatorMeaning, senseMeaning};
+use super::bytes::same;
+
+// A field as an operator.
+pub enum OperatorRead {
+    Is(peal::Operator),
+    NotAnOperator,
+}
+
+// A field as a sense.
+pub enum SenseRead {
+    Is(peal::Sense),
+    NotASense,
+}
+
+// `min`, `max`, `sum` or `mul`.
+pub fn read_operator(field: &[u8]) -> OperatorRead
+    ensures { λ r. ⌜ operatorMeaning r ≡ operator (now (field .entry)) ⌝ }
+{
+    if same(field, b"min") {
+        OperatorRead::Is(peal::Operator::Min)
+    } else if same(field, b"max") {
+        OperatorRead::Is(peal::Operator::Max)
+    } else if same(field, b"sum") {
+        OperatorRead::Is(peal::Operator::Sum)
+    } else if same(field, b"mul") {
+        OperatorRead::Is(peal::Operator::Mul)
+    } else {
+        OperatorRead::NotAnOperator
+    }
+}
+
+// `<` or `>=`.
+pub fn read_sense(field: &[u8]) -> SenseRead
+    ensures { λ r. ⌜ senseMeaning r ≡ sense (now (field .entry)) ⌝ }
+{
+    if same(field, b"<") {
+        SenseRead::Is(peal::Sense::Above)
+    } else if same(field, b">=") {
+        SenseRead::Is(peal::Sense::AtMost)
+    } else {
+        SenseRead::NotASense
+    }
+}

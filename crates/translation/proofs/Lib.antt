@@ -1,0 +1,3 @@
+pub mod MeetingLaws
+pub mod ListedFits
+pub mod RecordCount
