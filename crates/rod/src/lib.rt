@@ -20,7 +20,7 @@ fn is_inside(words: &[u32], i: usize, set: u16) -> bool
     requires { ⌜ i < length (now words) / 4 ⌝ }
     ensures { λ r. ⌜ (lineAt (now (words .entry)) i ≤ 65535 → r ≡ inside (lineAt (now (words .entry)) i) set) ⌝ }
 {
-    let line = words[i * 4 + 1];
+    let line = words[i * layout::RECORD_WORDS + layout::MASK];
     line & set as u32 == line
 }
 
@@ -60,7 +60,7 @@ fn policy_value(words: &[u32], at: usize, end: usize, quiet: bool, turned: bool,
     requires { ⌜ (at < length (now words) / 4) × (end ≡ nodeEnd (now words) at) × AllSets (leadingLines (recordsFrom (now words) (at + 1))) ⌝ }
     ensures { λ r. ⌜ r ≡ policyValue set (policyAt (now (words .entry)) at quiet turned) ⌝ }
 {
-    let mask = words[at * 4 + 1];
+    let mask = words[at * layout::RECORD_WORDS + layout::MASK];
     if mask & set as u32 != 0 {
         let found = some_line(words, at + 1, end, set);
         if turned { !found } else { found }
@@ -95,9 +95,9 @@ pub fn next_index(words: &[u32], at: usize) -> usize
     requires { ⌜ (at < length (now words) / 4) × NodeAt (now words) at ⌝ }
     ensures { λ r. ⌜ r ≡ nodeEnd (now (words .entry)) at ⌝ }
 {
-    let next = words[at * 4 + 3];
+    let next = words[at * layout::RECORD_WORDS + layout::NEXT];
     if next == 0 {
-        words.len() / 4
+        words.len() / layout::RECORD_WORDS
     } else {
         next as usize - 1
     }
@@ -108,7 +108,7 @@ fn after_node(words: &[u32], at: usize, end: usize, set: u16, values: u32) -> u3
     requires { ⌜ (at < length (now words) / 4) × (end ≡ nodeEnd (now words) at) × Underway (now words) set at values ⌝ }
     ensures { λ r. ⌜ Underway (now (words .entry)) set end r ⌝ }
 {
-    let k = layout::kind_of(words[at * 4]);
+    let k = layout::kind_of(words[at * layout::RECORD_WORDS]);
     match k {
         layout::Kind::Policy { quiet, turned } => {
             with_value(values, policy_value(words, at, end, quiet, turned, set))
@@ -128,7 +128,7 @@ pub fn reading(words: &[u32], set: u16) -> bool
 {
     let mut values: u32 = 0;
     let mut at: usize = 0;
-    while at < words.len() / 4 {
+    while at < words.len() / layout::RECORD_WORDS {
         let end = next_index(words, at);
         values = after_node(words, at, end, set, values);
         at = end;

@@ -5,6 +5,11 @@ ghost use mathlib.Core.Path.{_≡_};
 ghost use Prim.Native.Nat.{_≤_};
 ghost use Rattle.signals.specs.Sets.{isSet, present, inside, overlap, isPair, setOf};
 
+// How many signals there are, and the set of all of them: a number above it is no signal set.
+const SIGNALS: u32 = 16;
+
+pub const HIGHEST_SET: u32 = 65535;
+
 // The set of one signal. The crates above have signals from 0 to 15 alone.
 pub fn bit(signal: u32) -> u32
     requires { ⌜ signal ≤ 15 ⌝ }
@@ -39,13 +44,13 @@ pub fn overlaps(mask: u32, set: u16) -> bool
 pub fn is_pair(mask: u32) -> bool
     ensures { λ r. ⌜ r ≡ isPair mask ⌝ }
 {
-    if mask > 65535 {
+    if mask > HIGHEST_SET {
         return false;
     }
     let set = mask as u16;
     let mut count: u32 = 0;
     let mut signal: u32 = 0;
-    while signal < 16 {
+    while signal < SIGNALS {
         count += is_present(set, signal) as u32;
         signal += 1;
     }

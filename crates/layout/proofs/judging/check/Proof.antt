@@ -1,4 +1,4 @@
--- `layout::check`: the judged from here on is the verdict.
+-- `layout::judging::check`: the judged from here on is the verdict.
 use borrow.Author.Needs.{needs}
 use native.Mathlib.Omega.{arith}
 use Prim.Native.Nat.{_-_, _/_, _≤_}
@@ -6,9 +6,9 @@ use mathlib.Core.Path.{_≡_, sym, ap, _∙_}
 use lib.ListN.{length}
 use Rattle.layout.specs.Judgement.{judged, verdict, noRecord}
 use Rattle.layout.specs.Steps.{soFarMeaning, stepMeaning, recordsFrom}
-use Rattle.layout.proofs.Judging.{judged-on, judged-stop, judged-sound, judged-left, no-words, not-whole, whole, step-values}
-use Rattle.layout.proofs.check.Statement.{statement}
-use Rattle.layout.proofs.check.Tie as tie
+use Rattle.layout.proofs.JudgementLaws.{judged-on, judged-stop, judged-sound, judged-left, no-words, not-whole, whole, step-values}
+use Rattle.layout.proofs.judging.check.Statement.{statement}
+use Rattle.layout.proofs.judging.check.Tie as tie
 
 abbrev Inv-loop : tie.InvT-loop
 Inv-loop words len so₀ i₀ so i = (so .values ≤ so .policies) × (judged i (soFarMeaning so) (recordsFrom words i) ≡ verdict words)

@@ -1,8 +1,8 @@
--- `layout::in_policy`: each return by the test that led there.
+-- `layout::judging::in_policy`: each return by the test that led there.
 use borrow.Author.Needs.{needs}
 use Rattle.layout.proofs.StepLaws.{unowned, owned}
-use Rattle.layout.proofs.in_policy.Statement.{statement}
-use Rattle.layout.proofs.in_policy.Tie as tie
+use Rattle.layout.proofs.judging.in_policy.Statement.{statement}
+use Rattle.layout.proofs.judging.in_policy.Tie as tie
 
 lies-inside-requires : tie.Need-lies-inside-requires
 lies-inside-requires c κs = search needs

@@ -1,8 +1,8 @@
--- `layout::if_line`.
+-- `layout::judging::if_line`.
 use Rattle.layout.proofs.Places.{line-there, line-not, line-end}
 use borrow.Author.Needs.{needs}
-use Rattle.layout.proofs.if_line.Statement.{statement}
-use Rattle.layout.proofs.if_line.Tie as tie
+use Rattle.layout.proofs.judging.if_line.Statement.{statement}
+use Rattle.layout.proofs.judging.if_line.Tie as tie
 
 mul-if2 : tie.Need-mul-if2
 mul-if2 c = search needs

@@ -1,11 +1,11 @@
--- `layout::is_sound_line`: where all tests hold, a step passes over the line.
+-- `layout::judging::is_sound_line`: where all tests hold, a step passes over the line.
 use borrow.Author.Needs.{needs}
 use native.Mathlib.Omega.{arith}
 use mathlib.Core.Bool.{false≢true}
 use mathlib.Core.Path.{sym, _∙_}
 use Rattle.layout.proofs.Passing.{line-passed}
-use Rattle.layout.proofs.is_sound_line.Statement.{statement}
-use Rattle.layout.proofs.is_sound_line.Tie as tie
+use Rattle.layout.proofs.judging.is_sound_line.Statement.{statement}
+use Rattle.layout.proofs.judging.is_sound_line.Tie as tie
 
 record-at-requires : tie.Need-record-at-requires
 record-at-requires c κs = search needs

@@ -1,11 +1,11 @@
--- `layout::exclusion_step`: each return by the test that led there.
+-- `layout::judging::exclusion_step`: each return by the test that led there.
 use mathlib.Core.Path.{sym, _∙_}
 use borrow.Author.Needs.{needs}
 use native.Mathlib.Omega.{arith}
 use borrow.Author.Tests.{not-true, not-false}
 use Rattle.layout.proofs.StepLaws.{exclusion-low, exclusion-many, exclusion-mask, exclusion-lines, exclusion-next, exclusion-last, exclusion-kept}
-use Rattle.layout.proofs.exclusion_step.Statement.{statement}
-use Rattle.layout.proofs.exclusion_step.Tie as tie
+use Rattle.layout.proofs.judging.exclusion_step.Statement.{statement}
+use Rattle.layout.proofs.judging.exclusion_step.Tie as tie
 
 returns : tie.Need-returns
 returns c = exclusion-low _ _ _ _ (c .if1 .taken)

@@ -1,11 +1,11 @@
--- `layout::step_at`: the parts together are a step of the judged.
+-- `layout::judging::step_at`: the parts together are a step of the judged.
 use mathlib.Core.Path.{refl, ap, _∙_}
 use Rattle.layout.specs.Records.{and, or}
 use Rattle.layout.specs.Steps.{kindMeaning}
-use Rattle.layout.proofs.Judging.{step-line, step-join, step-policy, step-exclusion, step-unknown}
+use Rattle.layout.proofs.JudgementLaws.{step-line, step-join, step-policy, step-exclusion, step-unknown}
 use borrow.Author.Needs.{needs}
-use Rattle.layout.proofs.step_at.Statement.{statement}
-use Rattle.layout.proofs.step_at.Tie as tie
+use Rattle.layout.proofs.judging.step_at.Statement.{statement}
+use Rattle.layout.proofs.judging.step_at.Tie as tie
 
 record-at-requires : tie.Need-record-at-requires
 record-at-requires c κs = search needs

@@ -1,9 +1,9 @@
--- `layout::join_step`: each return by the test that led there.
+-- `layout::judging::join_step`: each return by the test that led there.
 use borrow.Author.Needs.{needs}
 use native.Mathlib.Omega.{arith}
 use Rattle.layout.proofs.StepLaws.{join-mask, join-lines, join-next, join-few, join-kept}
-use Rattle.layout.proofs.join_step.Statement.{statement}
-use Rattle.layout.proofs.join_step.Tie as tie
+use Rattle.layout.proofs.judging.join_step.Statement.{statement}
+use Rattle.layout.proofs.judging.join_step.Tie as tie
 
 returns : tie.Need-returns
 returns c = join-mask _ _ _ (c .if1 .taken)

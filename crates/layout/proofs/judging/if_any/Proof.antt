@@ -1,8 +1,8 @@
--- `layout::if_any`.
+-- `layout::judging::if_any`.
 use Rattle.layout.proofs.Places.{any-there, any-end}
 use borrow.Author.Needs.{needs}
-use Rattle.layout.proofs.if_any.Statement.{statement}
-use Rattle.layout.proofs.if_any.Tie as tie
+use Rattle.layout.proofs.judging.if_any.Statement.{statement}
+use Rattle.layout.proofs.judging.if_any.Tie as tie
 
 add-result : tie.Need-add-result
 add-result c = search needs

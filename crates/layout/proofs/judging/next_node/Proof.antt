@@ -1,4 +1,4 @@
--- `layout::next_node`: what is sought from the noRecord is what is sought from here on.
+-- `layout::judging::next_node`: what is sought from the noRecord is what is sought from here on.
 use borrow.Author.Needs.{needs}
 use native.Mathlib.Omega.{arith}
 use Prim.Native.Nat.{_+_, _-_, _/_}
@@ -8,8 +8,8 @@ use Rattle.layout.specs.Records.{kinds}
 use Rattle.layout.specs.Judgement.{nextNode}
 use Rattle.layout.specs.Steps.{recordsFrom}
 use Rattle.layout.proofs.Places.{next-past, next-here, next-end}
-use Rattle.layout.proofs.next_node.Statement.{statement}
-use Rattle.layout.proofs.next_node.Tie as tie
+use Rattle.layout.proofs.judging.next_node.Statement.{statement}
+use Rattle.layout.proofs.judging.next_node.Tie as tie
 
 abbrev Inv-loop : tie.InvT-loop
 Inv-loop words from i₀ i = (nextNode (i + 1) (kinds (recordsFrom words i)) ≡ nextNode (from + 1) (kinds (recordsFrom words from)))

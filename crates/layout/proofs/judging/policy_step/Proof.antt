@@ -1,9 +1,9 @@
--- `layout::policy_step`: each return by the test that led there.
+-- `layout::judging::policy_step`: each return by the test that led there.
 use borrow.Author.Needs.{needs}
 use native.Mathlib.Omega.{arith}
 use Rattle.layout.proofs.StepLaws.{policy-mask, policy-lines, policy-next, policy-many, policy-kept}
-use Rattle.layout.proofs.policy_step.Statement.{statement}
-use Rattle.layout.proofs.policy_step.Tie as tie
+use Rattle.layout.proofs.judging.policy_step.Statement.{statement}
+use Rattle.layout.proofs.judging.policy_step.Tie as tie
 
 returns : tie.Need-returns
 returns c = policy-mask _ _ _ _ (c .if1 .taken)

@@ -1,4 +1,4 @@
--- `layout::after_lines`: up to here there are but lines of the policy.
+-- `layout::judging::after_lines`: up to here there are but lines of the policy.
 use borrow.Author.Needs.{needs}
 use native.Mathlib.Omega.{arith}
 use Prim.Native.Nat.{_-_, _/_}
@@ -7,8 +7,8 @@ use mathlib.Core.Path.{sym, ap, _∙_}
 use lib.ListN.{length}
 use Rattle.layout.specs.Steps.{AfterLines}
 use Rattle.layout.proofs.Passing.{after-none, after-line}
-use Rattle.layout.proofs.after_lines.Statement.{statement}
-use Rattle.layout.proofs.after_lines.Tie as tie
+use Rattle.layout.proofs.judging.after_lines.Statement.{statement}
+use Rattle.layout.proofs.judging.after_lines.Tie as tie
 
 abbrev Inv-loop : tie.InvT-loop
 Inv-loop words node i₀ mask i = AfterLines words node i
