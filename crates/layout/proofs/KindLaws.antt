@@ -1,11 +1,12 @@
 -- Kinds and their numbers.
-use Prim.Native.Nat.{ℕ, zero, suc, _+_, _-_, _≤_, _<_}
+use Prim.Native.Nat.{ℕ, zero, suc, _+_, _-_, _*_, _≤_, _<_}
 use mathlib.Core.Bool.{Bool, true, false, not, cond}
 use mathlib.Core.Path.{_≡_, refl, subst}
 use native.Mathlib.Omega.{arith}
 use lib.Bits.{bitAnd}
 use lib.Dec.{eqb}
 use borrow.Author.Tests.{eqb-true, ne-eqb}
+use mir.Val.{boolByte}
 use Rattle.layout.specs.Records.{Join, and, or, Kind, policy, line, exclusion, unknown, bit, lineKind, joinKind, exclusionKind, policyKind, kindOf}
 
 -- ---- what a number says of the kind
@@ -60,6 +61,14 @@ no-number k l a o e p =
     )
 
 -- ---- what a kind says of its number
+
+-- a policy's number, from its flags as numbers
+pub kind-of-bytes : (quiet turned : Bool) → 16 + 1 * boolByte quiet + 2 * boolByte turned ≡ policyKind quiet turned
+unfolding policyKind bit
+kind-of-bytes true true = refl
+kind-of-bytes true false = refl
+kind-of-bytes false true = refl
+kind-of-bytes false false = refl
 
 abbrev pub Numbered : Kind → ℕ → Type 0
 Numbered line k = k ≡ lineKind

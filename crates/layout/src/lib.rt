@@ -1,15 +1,21 @@
-// The listing part: the words of a listing, and which record breaks the layout first.
+// The listing part: the words of a listing, which record breaks the layout first, and the writing of records.
 // `check` is for every caller; the other public items are for the crates above.
 mod judging;
 mod records;
+mod writing;
 
 pub use judging::check;
+pub use records::AND;
 pub use records::EXCLUSION;
 pub use records::Kind;
 pub use records::MASK;
 pub use records::NEXT;
+pub use records::OR;
 pub use records::RECORD_WORDS;
 pub use records::kind_of;
+pub use records::policy_kind;
+pub use writing::put_line;
+pub use writing::put_record;
 
 // Why a listing is declined.
 pub enum Fault {

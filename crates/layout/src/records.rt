@@ -2,7 +2,7 @@
 ghost use mathlib.Core.Path.{_≡_};
 ghost use Prim.Native.Nat.{_+_, _*_, _≤_};
 ghost use lib.ListN.{length};
-ghost use Rattle.layout.specs.Records.{kindOf};
+ghost use Rattle.layout.specs.Records.{kindOf, policyKind};
 ghost use Rattle.layout.specs.Steps.{kindMeaning, recordMeaning, recordAt};
 
 // How many words a record has: its kind comes first.
@@ -65,6 +65,13 @@ pub fn kind_of(k: u32) -> Kind
         },
         _ => Kind::Unknown,
     }
+}
+
+// The kind of a policy.
+pub fn policy_kind(quiet: bool, turned: bool) -> u32
+    ensures { λ r. ⌜ r ≡ policyKind quiet turned ⌝ }
+{
+    POLICY + QUIET * quiet as u32 + TURNED * turned as u32
 }
 
 // A record's four words.
