@@ -20,7 +20,7 @@ pub type Table = [u64; TABLE_WORDS];
 // A listing has at most sixteen values at a time, and each is a table.
 pub const VALUE_WORDS: usize = 256;
 
-pub type Values = [u64; VALUE_WORDS];
+type Values = [u64; VALUE_WORDS];
 
 // How many sets a group has.
 pub const GROUP_SETS: u32 = 1024;

@@ -3,11 +3,12 @@ ghost use mathlib.Core.Bool.{_&&_};
 ghost use mathlib.Core.List.{[], _∷_};
 ghost use mathlib.Core.Path.{_≡_};
 ghost use Prim.Native.Nat.{_≤_};
-ghost use Rattle.signals.specs.Sets.{isSet, present, inside, overlap, isPair, setOf};
+ghost use Rattle.signals.specs.Sets.{isSet, present, inside, isPair, setOf};
 
-// How many signals there are, and the set of all of them: a number above it is no signal set.
+// How many signals there are.
 const SIGNALS: u32 = 16;
 
+// The set of all of them: a number above it is no signal set.
 pub const HIGHEST_SET: u32 = 65535;
 
 // The set of one signal. The crates above have signals from 0 to 15 alone.
@@ -31,13 +32,6 @@ pub fn lies_inside(mask: u32, set: u16) -> bool
     ensures { λ r. ⌜ r ≡ (isSet mask && inside mask set) ⌝ }
 {
     mask & set as u32 == mask
-}
-
-// The mask shares a signal with the set.
-pub fn overlaps(mask: u32, set: u16) -> bool
-    ensures { λ r. ⌜ r ≡ overlap mask set ⌝ }
-{
-    mask & set as u32 != 0
 }
 
 // The mask is a set of exactly two signals.
