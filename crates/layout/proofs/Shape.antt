@@ -14,7 +14,7 @@ use Rattle.answers.specs.Answers.{Answer, result, require}
 use Rattle.arith.specs.Trees.{leaf, join, value, joining, postfix}
 use Rattle.arith.proofs.Tests.{and-left, and-right}
 use Rattle.signals.specs.Sets.{isSet, inside, isPair}
-use Rattle.layout.specs.Records.{Record, records, words, Join, and, or, Kind, policy, line, exclusion, unknown, lineKind, joinKind, exclusionKind, policyKind, kindOf, isLine, kinds}
+use Rattle.layout.specs.Records.{Record, records, words, Join, Kind, policy, line, exclusion, unknown, lineKind, joinKind, exclusionKind, kindOf, isLine, kinds}
 use Rattle.layout.specs.Judgement.{ifAny, ifLine, nextNode, SoFar, noRecord, insidePolicy, keepsLayout, soFarAfter, judged, lengthSound, verdict}
 use Rattle.layout.specs.Nodes.{ListedNode, ListedTree, lineRecords, nodeRecords, exclusionRecords, listing, leadingLines, nodeThen, nodes, pairThen, excluded}
 use Rattle.layout.specs.WellFormed.{LinesFit, TreeFits, policyCount, ArePairs, PairsFit, WellFormed}

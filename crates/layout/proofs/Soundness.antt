@@ -1,6 +1,6 @@
 -- The listing of well-formed nodes is sound, and its nodes are those nodes.
 use Prim.Native.Nat.{ℕ, suc, _+_, _*_, _-_, _%_, _≤_}
-use mathlib.Core.Bool.{Bool, true, false, _&&_}
+use mathlib.Core.Bool.{Bool, true, _&&_}
 use mathlib.Core.List.{List, [], _∷_, _++_, append-assoc, append-nil}
 use mathlib.Core.Option.{Option, none, some}
 use mathlib.Core.Path.{_≡_, refl, sym, ap, subst, subst₂, _∙_}
@@ -11,7 +11,7 @@ use borrow.Author.Tests.{eq-eqb, ne-eqb, le-leb}
 use Rattle.answers.specs.Answers.{result}
 use Rattle.arith.specs.Trees.{leaf, join, value, joining, postfix}
 use Rattle.signals.specs.Sets.{isSet, inside}
-use Rattle.layout.specs.Records.{Record, records, words, Join, and, or, Kind, policy, line, exclusion, bit, lineKind, joinKind, exclusionKind, policyKind, kindOf, isLine, kinds}
+use Rattle.layout.specs.Records.{Record, records, words, Kind, policy, line, exclusion, lineKind, joinKind, exclusionKind, policyKind, kindOf, isLine, kinds}
 use Rattle.layout.specs.Judgement.{ifAny, ifLine, nextNode, SoFar, noRecord, insidePolicy, keepsLayout, soFarAfter, judged, lengthSound, verdict}
 use Rattle.layout.specs.Nodes.{ListedNode, ListedTree, lineRecords, nodeRecords, exclusionRecords, listing, leadingLines, nodeThen, nodes, pairThen, excluded}
 use Rattle.layout.specs.WellFormed.{LinesFit, TreeFits, policyCount, ArePairs, PairsFit, WellFormed}
