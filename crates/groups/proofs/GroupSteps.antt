@@ -14,7 +14,8 @@ use Rattle.layout.specs.Records.{Join, Kind, policy, exclusion, kindOf, kinds}
 use Rattle.layout.specs.Judgement.{noRecord, soFarAfter, verdict}
 use Rattle.layout.specs.Nodes.{ListedNode, leadingLines, nodeThen, nodes}
 use Rattle.layout.specs.Steps.{recordAt, recordsFrom}
-use Rattle.layout.proofs.Shape.{kept-policy, kept-join, no-owner, sound-well-formed}
+use Rattle.layout.proofs.KeptLaws.{kept-policy, kept-join, no-owner}
+use Rattle.layout.proofs.SoundNodes.{sound-well-formed}
 use Rattle.layout.proofs.Places.{from-nil}
 use Rattle.rod.specs.Reading.{policyValue, joined, remaining, reading, says}
 use Rattle.rod.specs.Values.{policyAt, nodeEnd}

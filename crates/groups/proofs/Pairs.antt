@@ -17,7 +17,7 @@ use Rattle.layout.specs.Records.{Kind, policy, line, exclusion, unknown, exclus
 use Rattle.layout.specs.Nodes.{pairThen, excluded}
 use Rattle.layout.specs.Steps.{recordsFrom}
 use Rattle.layout.proofs.KindLaws.{kind-exclusion, Numbered, numbered}
-use Rattle.layout.proofs.Shape.{sound-exclusions}
+use Rattle.layout.proofs.SoundNodes.{sound-exclusions}
 use Rattle.layout.proofs.Places.{from-cons, from-nil}
 use Rattle.rod.specs.Values.{lineAt, AllSets}
 use Rattle.groups.specs.Groups.{masksFrom, MasksAt, SoundWith}

@@ -1,4 +1,4 @@
--- Lines passed over: a sound line leaves what stands above as it is, so after a policy the judgement may go on behind its lines.
+-- Lines passed over: a sound line leaves what stands above as it is, so after a policy the judgement may go on after its lines.
 use Prim.Native.Nat.{ℕ, _+_, _*_, _/_, _≤_, _<_}
 use mathlib.Core.Bool.{true, _&&_}
 use mathlib.Core.List.{List}

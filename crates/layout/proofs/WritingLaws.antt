@@ -12,7 +12,7 @@ use Rattle.layout.specs.Records.{Record, words, lineKind}
 use Rattle.layout.specs.Judgement.{ifAny}
 use Rattle.layout.specs.Nodes.{lineRecords}
 use Rattle.layout.specs.Writing.{putRecord, putRecords, lineRecord, linesUpTo, PutInPlace}
-use Rattle.layout.proofs.Soundness.{length-words}
+use Rattle.layout.proofs.WordLaws.{length-words}
 
 -- ---- no word is added
 

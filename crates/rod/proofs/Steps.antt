@@ -15,7 +15,8 @@ use Rattle.layout.specs.Judgement.{ifAny, noRecord, keepsLayout, soFarAfter, ju
 use Rattle.layout.specs.Nodes.{ListedNode, leadingLines, nodeThen, nodes}
 use Rattle.layout.specs.WellFormed.{LinesFit}
 use Rattle.layout.specs.Steps.{recordAt, recordsFrom}
-use Rattle.layout.proofs.Shape.{kept-policy, kept-join, kept-exclusion, some-after, sound-step, no-owner, lines-fit, sound-judged, sound-well-formed}
+use Rattle.layout.proofs.KeptLaws.{kept-policy, kept-join, kept-exclusion, some-after, sound-step, no-owner, sound-judged}
+use Rattle.layout.proofs.SoundNodes.{lines-fit, sound-well-formed}
 use Rattle.layout.proofs.Places.{from-cons, from-nil}
 use Rattle.layout.proofs.Runs.{behindLines, behind-drop, behind-no-line, behind-nodes, behind-next, behind-judged, from-behind, run-in-words, nodes-here}
 use Rattle.rod.specs.Reading.{policyValue, joined, remaining, reading, says, rodAnswer}
@@ -59,7 +60,7 @@ module _ (ws : List ℕ) (at : ℕ) (lt : at < length ws / 4) (node : NodeAt ws 
   unfolding keepsLayout
   not-unknown e = false≢true (step unknown e .0)
 
-  -- the records behind it and its lines
+  -- the records after it and its lines
   unfoldable pub node-after : (k : Kind) → k ≡ kindOf (getD ws (at * 4) 0) → NodeAt ws (nodeEnd ws at)
   unfolding nodeEnd
   node-after k e =
@@ -87,7 +88,7 @@ module _ (ws : List ℕ) (at : ℕ) (lt : at < length ws / 4) (node : NodeAt ws 
   policy-lines q t e end n =
       record { run = n; sets = all-sets _ (leadingLines rest) (lines-fit (at + 1) (getD ws (at * 4 + 1) 0) _ rest refl (step (policy q t) e .1)) }
 
-  -- its `next` names the node behind it, or is 0
+  -- its `next` names the node after it, or is 0
   next-word : getD ws (at * 4 + 3) 0 ≡ ifAny (recordsFrom ws (nodeEnd ws at)) (nodeEnd ws at + 1)
   unfolding nodeEnd soFarAfter
   next-word = rw (from-behind ws (at + 1)) (go (kindOf (getD ws (at * 4) 0)) refl)
@@ -207,7 +208,7 @@ module _ (ws : List ℕ) (set at values : ℕ) (lt : at < length ws / 4) (u : Un
 pub at-end : (ws : List ℕ) (set at end values : ℕ) → end ≡ nodeEnd ws at → Underway ws set (nodeEnd ws at) values → Underway ws set end values
 at-end ws set at end values e u = subst (λ (x : ℕ). Underway ws set x values) (sym e) u
 
--- behind the last record one value remains
+-- after the last record one value remains
 pub ends : (ws : List ℕ) (set at values : ℕ) → length ws / 4 ≤ at → Underway ws set at values → eqb values 1 ≡ says ws set
 unfolding remaining run nodes
 ends ws set at values h u = go (u .stack) (u .held) (u .height) (rw (from-nil ws at h) at (u .same))
