@@ -12,7 +12,7 @@ use Rattle.arith.specs.Trees.{leaf, join, postfix, mapTree}
 use Rattle.arith.proofs.Tests.{clash}
 use Rattle.layout.specs.Records.{words, records}
 use Rattle.layout.specs.Nodes.{nodes, excluded}
-use Rattle.layout.proofs.Soundness.{nodes-listing, excluded-listing}
+use Rattle.layout.proofs.ListedLaws.{nodes-listing, excluded-listing}
 use Rattle.rod.specs.Reading.{rodAnswer}
 use Rattle.rod.specs.Meaning.{rodMeaning}
 use Rattle.rod.specs.declared.Decision.{Decision as RodDecision}

@@ -73,7 +73,7 @@ leZ-refl a = le-leZ a a (omega arith)
 pub leZ-trans : (a b c : ℤ) → leZ a b ≡ true → leZ b c ≡ true → leZ a c ≡ true
 leZ-trans a b c h k = le-leZ a c (omega (arith, leZ-le a b h, leZ-le b c k))
 
-pub ltZ-leZ : (a b : ℤ) → ltZ a b ≡ true → leZ a b ≡ true
+ltZ-leZ : (a b : ℤ) → ltZ a b ≡ true → leZ a b ≡ true
 ltZ-leZ a b h = le-leZ a b (omega (arith, ltZ-lt a b h))
 
 pub ltZ-leZ-trans : (a b c : ℤ) → ltZ a b ≡ true → leZ b c ≡ true → ltZ a c ≡ true

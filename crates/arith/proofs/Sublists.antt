@@ -75,7 +75,7 @@ module _ {A : Type 0} where
         others = Sublistᴰ·cons-cons e (l .others);
       }
 
-  -- a list inside X and a last member lies inside X, or has that member behind a list inside X
+  -- a list inside X and a last member lies inside X, or has that member after a list inside X
   pub inside-last : (X : List A) {Y : List A} {r : A} → Sublistᴰ Y (X ++ (r ∷ []))
       → Sublistᴰ Y X ⊎ ((Z : List A) × (Y ≡ Z ++ (r ∷ [])) × Sublistᴰ Z X)
   inside-last [] (Sublistᴰ·cons s) = inl s

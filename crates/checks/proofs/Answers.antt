@@ -78,7 +78,7 @@ differ-group one two group barred also firsts seconds p q r s k l j h =
 -- ---- the choice check
 
 -- below which set the other answer was sought
-abbrev pub soughtTo : Option ℕ → ℕ
+abbrev soughtTo : Option ℕ → ℕ
 soughtTo (some set) = set + 1
 soughtTo none = 65536
 

@@ -12,10 +12,10 @@ use Rattle.signals.proofs.SetOfLaws.{pair-not-empty}
 use Rattle.layout.specs.Records.{records}
 use Rattle.layout.specs.Judgement.{verdict}
 use Rattle.layout.specs.Nodes.{excluded}
-use Rattle.layout.proofs.Shape.{sound-exclusions}
+use Rattle.layout.proofs.SoundNodes.{sound-exclusions}
 use Rattle.rod.specs.Reading.{someLine}
 use Rattle.groups.specs.Groups.{GroupOf, masksFrom, SoundWith, Reached}
-use Rattle.groups.proofs.TableLaws.{reached-all}
+use Rattle.groups.proofs.SpreadLaws.{reached-all}
 use Rattle.groups.proofs.Pairs.{pair-masks, pair-run}
 use Rattle.checks.specs.Checks.{permitted}
 

@@ -10,7 +10,7 @@ use borrow.Author.Tests.{leb-true}
 use Rattle.answers.specs.Answers.{Answer, result}
 use Rattle.answers.proofs.Results.{result-is, required, gone-on}
 use Rattle.layout.specs.Records.{Record, words}
-use Rattle.layout.proofs.Soundness.{length-words}
+use Rattle.layout.proofs.WordLaws.{length-words}
 use Rattle.peal.specs.Policies.{Condition, Book}
 use Rattle.translation.specs.Translation.{listingRecords}
 use Rattle.book.specs.Books.{asked}

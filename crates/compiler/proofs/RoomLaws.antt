@@ -9,7 +9,7 @@ use borrow.Author.Tests.{le-leb, lt-leb}
 use Rattle.answers.specs.Answers.{result, refused}
 use Rattle.arith.proofs.Order.{le-or-lt}
 use Rattle.layout.specs.Records.{Record, words}
-use Rattle.layout.proofs.Soundness.{length-words}
+use Rattle.layout.proofs.WordLaws.{length-words}
 use Rattle.peal.specs.Policies.{Condition, Book}
 use Rattle.translation.specs.Translation.{listingRecords}
 use Rattle.book.specs.Books.{asked}

@@ -1,5 +1,7 @@
 pub mod ReachLaws
-pub mod TableLaws
+pub mod AddedLaws
+pub mod GatheredLaws
+pub mod SpreadLaws
 pub mod MaskRuns
 pub mod Pairs
 pub mod Words

@@ -70,7 +70,7 @@ block-told mask group found turn still k over word o w j h =
 -- ---- what a policy says
 
 -- in every block of the group the mask overlaps the same sets as in the first
-abbrev pub EvenOverlap : ℕ → ℕ → Type 0
+abbrev EvenOverlap : ℕ → ℕ → Type 0
 EvenOverlap mask group = (k : ℕ) → k < 16 → (j : ℕ) → j < 64 → overlap mask (64 * (16 * group + k) + j) ≡ overlap mask (64 * (16 * group) + j)
 
 -- turned over by all sets, or by none

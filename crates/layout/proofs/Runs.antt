@@ -1,5 +1,5 @@
--- Runs of lines: what stands behind the lines that some records begin with.
-use Prim.Native.Nat.{ℕ, zero, suc, _+_, _*_, _-_, _/_, _≤_, _<_}
+-- Runs of lines: what stands after the lines that some records begin with.
+use Prim.Native.Nat.{ℕ, zero, suc, _+_, _*_, _/_, _≤_, _<_}
 use mathlib.Core.Bool.{Bool, true, false, cond}
 use mathlib.Core.List.{List, [], _∷_}
 use mathlib.Core.Path.{_≡_, refl, sym, ap, subst, _∙_}
@@ -11,10 +11,10 @@ use Rattle.layout.specs.Records.{Record, records, Kind, policy, line, ex
 use Rattle.layout.specs.Judgement.{ifAny, nextNode, SoFar, soFarAfter, judged}
 use Rattle.layout.specs.Nodes.{leadingLines, nodeThen, nodes}
 use Rattle.layout.specs.Steps.{recordsFrom}
-use Rattle.layout.proofs.Shape.{sound-step}
+use Rattle.layout.proofs.KeptLaws.{sound-step}
 use Rattle.layout.proofs.Places.{from-cons, from-nil}
 
--- the records behind the lines that some records begin with
+-- the records after the lines that some records begin with
 unfoldable pub behindLines : List Record → List Record
 behindLines [] = []
 behindLines (r ∷ rest) = cond (isLine (kindOf (r .kind))) (behindLines rest) (r ∷ rest)
@@ -135,7 +135,7 @@ pub leading-end : (ws : List ℕ) (i : ℕ) → length ws / 4 ≤ i → leadingL
 unfolding leadingLines
 leading-end ws i h = rw (from-nil ws i h) refl
 
--- the nodes from an index on: the node there, with the lines behind it, and the nodes after it
+-- the nodes from an index on: the node there, with the lines after it, and the nodes after it
 pub nodes-here : (ws : List ℕ) (i : ℕ) (k : Kind) → i < length ws / 4 → k ≡ kindOf (getD ws (i * 4) 0)
     → nodes (recordsFrom ws i) ≡ nodeThen k (getD ws (i * 4 + 1) 0) (leadingLines (recordsFrom ws (i + 1))) (nodes (recordsFrom ws (i + 1)))
 unfolding nodes

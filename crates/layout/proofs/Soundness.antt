@@ -1,6 +1,6 @@
--- The listing of well-formed nodes is sound, and its nodes are those nodes.
+-- The listing of well-formed nodes is sound.
 use Prim.Native.Nat.{ℕ, suc, _+_, _*_, _-_, _%_, _≤_}
-use mathlib.Core.Bool.{Bool, true, false, _&&_}
+use mathlib.Core.Bool.{Bool, true, _&&_}
 use mathlib.Core.List.{List, [], _∷_, _++_, append-assoc, append-nil}
 use mathlib.Core.Option.{Option, none, some}
 use mathlib.Core.Path.{_≡_, refl, sym, ap, subst, subst₂, _∙_}
@@ -11,32 +11,15 @@ use borrow.Author.Tests.{eq-eqb, ne-eqb, le-leb}
 use Rattle.answers.specs.Answers.{result}
 use Rattle.arith.specs.Trees.{leaf, join, value, joining, postfix}
 use Rattle.signals.specs.Sets.{isSet, inside}
-use Rattle.layout.specs.Records.{Record, records, words, Join, and, or, Kind, policy, line, exclusion, bit, lineKind, joinKind, exclusionKind, policyKind, kindOf, isLine, kinds}
+use Rattle.layout.specs.Records.{Record, words, Kind, policy, line, exclusion, lineKind, joinKind, exclusionKind, policyKind, kindOf, kinds}
 use Rattle.layout.specs.Judgement.{ifAny, ifLine, nextNode, SoFar, noRecord, insidePolicy, keepsLayout, soFarAfter, judged, lengthSound, verdict}
-use Rattle.layout.specs.Nodes.{ListedNode, ListedTree, lineRecords, nodeRecords, exclusionRecords, listing, leadingLines, nodeThen, nodes, pairThen, excluded}
+use Rattle.layout.specs.Nodes.{ListedNode, ListedTree, lineRecords, nodeRecords, exclusionRecords, listing}
 use Rattle.layout.specs.WellFormed.{LinesFit, TreeFits, policyCount, ArePairs, PairsFit, WellFormed}
+use Rattle.layout.proofs.KindLaws.{kind-line, kind-policy, kind-join, kind-exclusion}
+use Rattle.layout.proofs.WordLaws.{records-words, length-words}
+use Rattle.layout.proofs.ListedLaws.{no-line, any-nodes, next-nodes, line-lines, next-lines}
 
--- ---- kinds and tests
-
-pub kind-line : kindOf lineKind ≡ line
-unfolding kindOf lineKind
-kind-line = refl
-
-pub kind-policy : (q t : Bool) → kindOf (policyKind q t) ≡ policy q t
-unfolding kindOf lineKind joinKind policyKind bit
-kind-policy true true = refl
-kind-policy true false = refl
-kind-policy false true = refl
-kind-policy false false = refl
-
-pub kind-join : (j : Join) → kindOf (joinKind j) ≡ Kind.join j
-unfolding kindOf lineKind joinKind
-kind-join and = refl
-kind-join or = refl
-
-pub kind-exclusion : kindOf exclusionKind ≡ exclusion
-unfolding kindOf lineKind joinKind policyKind bit exclusionKind
-kind-exclusion = refl
+-- ---- tests
 
 judged-step : (n : ℕ) (so : SoFar) (r : Record) (rest : List Record) (k : Kind) → kindOf (r .kind) ≡ k
     → keepsLayout (n + 1) so k r (kinds rest) ≡ true → judged n so (r ∷ rest) ≡ judged (n + 1) (soFarAfter so k r) rest
@@ -49,41 +32,6 @@ and-three p q r = rw (p, q, r)
 and-four : {a b c d : Bool} → a ≡ true → b ≡ true → c ≡ true → d ≡ true → (a && b && c && d) ≡ true
 and-four p q r s = rw (p, q, r, s)
 
--- ---- what stands after a record
-
--- the records of nodes begin with no line
-pub no-line : (m k : ℕ) (ns : List ListedNode) → ifLine (kinds (nodeRecords m ns)) k ≡ 0
-unfolding nodeRecords kinds ifLine isLine
-no-line m k [] = refl
-no-line m k (value p ∷ ns) = rw (kind-policy (p .quiet) (p .turned)) refl
-no-line m k (joining j ∷ ns) = rw (kind-join j) refl
-
-pub any-nodes : (m k : ℕ) (ns : List ListedNode) → ifAny (kinds (nodeRecords m ns)) k ≡ ifAny ns k
-unfolding nodeRecords kinds ifAny
-any-nodes m k [] = refl
-any-nodes m k (value p ∷ ns) = refl
-any-nodes m k (joining j ∷ ns) = refl
-
-pub next-nodes : (m k : ℕ) (ns : List ListedNode) → nextNode k (kinds (nodeRecords m ns)) ≡ ifAny ns k
-unfolding nodeRecords kinds ifAny nextNode isLine
-next-nodes m k [] = refl
-next-nodes m k (value p ∷ ns) = rw (kind-policy (p .quiet) (p .turned)) refl
-next-nodes m k (joining j ∷ ns) = rw (kind-join j) refl
-
--- after some lines and then records that begin with none
-pub line-lines : (m k : ℕ) (ls : List ℕ) (rest : List Record) → ifLine (kinds rest) k ≡ 0 → ifLine (kinds (lineRecords m ls ++ rest)) k ≡ ifAny ls k
-unfolding lineRecords kinds ifLine ifAny kindOf isLine
-line-lines m k [] rest h = h
-line-lines m k (l ∷ ls) rest h = rw kind-line refl
-
-pub next-lines : (m k : ℕ) (ls : List ℕ) (rest : List Record) → nextNode k (kinds (lineRecords m ls ++ rest)) ≡ nextNode (k + length ls) (kinds rest)
-unfolding lineRecords kinds nextNode isLine
-next-lines m k [] rest = rw add-zero refl
-next-lines m k (l ∷ ls) rest =
-    rw kind-line (next-lines (m + 1) (k + 1) ls rest ∙ ap (λ (i : ℕ). nextNode i (kinds rest)) (omega arith))
-
--- ---- the judgement
-
 set-fits : (n : ℕ) → n ≤ 65535 → isSet n ≡ true
 unfolding isSet
 set-fits n h = le-leb n 65535 h
@@ -91,6 +39,8 @@ set-fits n h = le-leb n 65535 h
 inside-policy : (mask l : ℕ) → l ≤ 65535 → inside l mask ≡ true → insidePolicy l (some mask) ≡ true
 unfolding insidePolicy
 inside-policy mask l h w = rw (set-fits l h, w)
+
+-- ---- the judgement
 
 judged-lines : (n mask v p : ℕ) (ls : List ℕ) (rest : List Record) → LinesFit mask ls → ((k : ℕ) → ifLine (kinds rest) k ≡ 0)
     → judged n (record { policyMask = some mask; values = v; policies = p }) (lineRecords (n + 1) ls ++ rest)
@@ -152,17 +102,7 @@ judged-exclusions n (pair ∷ pairs) r rest g few =
     ∙ judged-exclusions (n + 1) pairs r rest (g .1) (omega arith)
     ∙ ap (λ (i : ℕ). judged i noRecord (r ∷ rest)) (omega arith)
 
--- ---- from records to words and back
-
-pub records-words : (rs : List Record) → records (words rs) ≡ rs
-unfolding records words
-records-words [] = refl
-records-words (r ∷ rs) = ap {B = List Record} (λ l. r ∷ l) (records-words rs)
-
-pub length-words : (rs : List Record) → length (words rs) ≡ 4 * length rs
-unfolding words
-length-words [] = refl
-length-words (r ∷ rs) = let h : length (words rs) ≡ 4 * length rs = length-words rs in omega arith
+-- ---- the verdict
 
 words-whole : (r : Record) (rs : List Record) → lengthSound (words (r ∷ rs)) ≡ true
 unfolding lengthSound
@@ -212,51 +152,3 @@ tree-nodes t g room =
 
 pub tree-sound : (pairs : List ℕ) (t : ListedTree) → PairsFit pairs → TreeFits t → policyCount t ≤ 16 → verdict (words (listing pairs (postfix t))) ≡ result tt
 tree-sound pairs t fit g room = listing-sound pairs (postfix t) fit (tree-nodes t g room)
-
--- ---- the nodes of a listing
-
-no-leading-lines : (m : ℕ) (ns : List ListedNode) → leadingLines (nodeRecords m ns) ≡ []
-unfolding nodeRecords leadingLines isLine
-no-leading-lines m [] = refl
-no-leading-lines m (value p ∷ ns) = rw (kind-policy (p .quiet) (p .turned)) refl
-no-leading-lines m (joining j ∷ ns) = rw (kind-join j) refl
-
-leading-lines : (m : ℕ) (ls : List ℕ) (rest : List Record) → leadingLines rest ≡ [] → leadingLines (lineRecords m ls ++ rest) ≡ ls
-unfolding lineRecords leadingLines isLine
-leading-lines m [] rest h = h
-leading-lines m (l ∷ ls) rest h = rw kind-line (ap {B = List ℕ} (λ x. l ∷ x) (leading-lines (m + 1) ls rest h))
-
-nodes-lines : (m : ℕ) (ls : List ℕ) (rest : List Record) → nodes (lineRecords m ls ++ rest) ≡ nodes rest
-unfolding lineRecords nodes nodeThen
-nodes-lines m [] rest = refl
-nodes-lines m (l ∷ ls) rest = rw kind-line (nodes-lines (m + 1) ls rest)
-
-nodes-records : (m : ℕ) (ns : List ListedNode) → nodes (nodeRecords m ns) ≡ ns
-unfolding nodeRecords nodes nodeThen
-nodes-records m [] = refl
-nodes-records m (joining j ∷ ns) = rw kind-join (ap {B = List ListedNode} (λ x. joining j ∷ x) (nodes-records (m + 1) ns))
-nodes-records m (value p ∷ ns) =
-    rw (kind-policy (p .quiet) (p .turned), leading-lines (m + 1) (p .lines) (nodeRecords (m + 1 + length (p .lines)) ns) (no-leading-lines (m + 1 + length (p .lines)) ns), nodes-lines)
-    (ap {B = List ListedNode} (λ x. value p ∷ x) (nodes-records (m + 1 + length (p .lines)) ns))
-
--- exclusions are no nodes, and nodes are no exclusions
-nodes-exclusions : (m : ℕ) (pairs : List ℕ) (rest : List Record) → nodes (exclusionRecords m pairs ++ rest) ≡ nodes rest
-unfolding exclusionRecords nodes nodeThen
-nodes-exclusions m [] rest = refl
-nodes-exclusions m (pair ∷ pairs) rest = rw kind-exclusion (nodes-exclusions (m + 1) pairs rest)
-
-excluded-records : (m k : ℕ) (pairs : List ℕ) (ns : List ListedNode) → excluded (exclusionRecords m pairs ++ nodeRecords k ns) ≡ pairs
-unfolding exclusionRecords nodeRecords excluded pairThen
-excluded-records m k [] [] = refl
-excluded-records m k [] (value p ∷ ns) = rw (kind-policy (p .quiet) (p .turned)) refl
-excluded-records m k [] (joining j ∷ ns) = rw (kind-join j) refl
-excluded-records m k (pair ∷ pairs) ns = rw kind-exclusion (ap {B = List ℕ} (λ x. pair ∷ x) (excluded-records (m + 1) k pairs ns))
-
--- the nodes and the exclusions of a listing are those that it was made of
-pub nodes-listing : (pairs : List ℕ) (ns : List ListedNode) → nodes (records (words (listing pairs ns))) ≡ ns
-unfolding listing
-nodes-listing pairs ns = rw (records-words, nodes-exclusions) (nodes-records (1 + length pairs) ns)
-
-pub excluded-listing : (pairs : List ℕ) (ns : List ListedNode) → excluded (records (words (listing pairs ns))) ≡ pairs
-unfolding listing
-excluded-listing pairs ns = rw records-words (excluded-records 1 (1 + length pairs) pairs ns)

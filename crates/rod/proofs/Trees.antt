@@ -9,8 +9,9 @@ use Rattle.layout.specs.Records.{words}
 use Rattle.layout.specs.Judgement.{verdict}
 use Rattle.layout.specs.Nodes.{ListedNode, ListedTree, listing}
 use Rattle.layout.specs.WellFormed.{TreeFits, policyCount, PairsFit}
-use Rattle.layout.proofs.Soundness.{tree-sound, nodes-listing}
-use Rattle.layout.proofs.Shape.{sound-tree}
+use Rattle.layout.proofs.Soundness.{tree-sound}
+use Rattle.layout.proofs.ListedLaws.{nodes-listing}
+use Rattle.layout.proofs.SoundNodes.{sound-tree}
 use Rattle.rod.specs.Reading.{policyValue, joined, remaining, reading, says, rodAnswer}
 
 reading-tree : (t : ListedTree) (set : ℕ) → reading (postfix t) set ≡ treeValue joined (policyValue set) t

@@ -13,7 +13,8 @@ use Rattle.layout.specs.Records.{records}
 use Rattle.layout.specs.Judgement.{verdict, noRecord}
 use Rattle.layout.specs.Nodes.{ListedPolicy, nodes}
 use Rattle.layout.specs.WellFormed.{PolicyFits, WellFormed}
-use Rattle.layout.proofs.Shape.{line-fits, sound-judged, sound-well-formed}
+use Rattle.layout.proofs.SoundNodes.{line-fits, sound-well-formed}
+use Rattle.layout.proofs.KeptLaws.{sound-judged}
 use Rattle.rod.specs.Reading.{policyValue, remaining, reading, says, rodAnswer}
 use Rattle.peal.specs.Policies.{Policy, MinMax, Condition, policyAt}
 use Rattle.peal.specs.MasksDecide.{SignalsFit}

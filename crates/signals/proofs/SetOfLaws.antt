@@ -148,7 +148,7 @@ two-signals a b h k differ =
     sym (ap (λ (t : Bool). t || isPair (setOf (a ∷ b ∷ []))) (ne-eqb a b differ)) ∙ tried
 
 -- a pair is a signal set
-pub pair-is-set : (mask : ℕ) → isPair mask ≡ true → isSet mask ≡ true
+pair-is-set : (mask : ℕ) → isPair mask ≡ true → isSet mask ≡ true
 unfolding isPair
 pair-is-set mask h = and-left (isSet mask) (eqb (size mask) 2) h
 

@@ -5,7 +5,7 @@ use borrow.Author.Needs.{needs}
 use Rattle.checks.proofs.Pairs.{barred-group, barred-reached}
 use Rattle.groups.proofs.Pairs.{pair-masks}
 use lib.ListN.{replicate}
-use Rattle.groups.proofs.TableLaws.{none-inside, reached-none}
+use Rattle.groups.proofs.SpreadLaws.{none-inside, reached-none}
 use Rattle.checks.proofs.group_barred.Statement.{statement}
 use Rattle.checks.proofs.group_barred.Tie as tie
 

@@ -5,7 +5,7 @@ use mathlib.Core.Path.{sym, ap, _∙_}
 use native.Mathlib.Omega.{arith}
 use borrow.Author.Needs.{needs}
 use Rattle.arith.proofs.Bits.{bit-is}
-use Rattle.groups.proofs.TableLaws.{mask-added, mask-left}
+use Rattle.groups.proofs.AddedLaws.{mask-added, mask-left}
 use Rattle.groups.proofs.add_mask.Statement.{statement}
 use Rattle.groups.proofs.add_mask.Tie as tie
 

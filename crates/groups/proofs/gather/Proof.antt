@@ -1,7 +1,7 @@
 -- `groups::gather`: four at a turn, and then the rest.
 use native.Mathlib.Omega.{arith}
 use borrow.Author.Needs.{needs}
-use Rattle.groups.proofs.TableLaws.{masks-front, masks-rest, gathered-both}
+use Rattle.groups.proofs.GatheredLaws.{masks-front, masks-rest, gathered-both}
 use Rattle.groups.proofs.gather.Statement.{statement}
 use Rattle.groups.proofs.gather.Tie as tie
 

@@ -4,7 +4,7 @@ use denote.Ref.{now}
 use mathlib.Core.Path.{_≡_, refl, subst}
 use native.Mathlib.Omega.{arith}
 use lib.ListN.{length}
-use Rattle.groups.proofs.TableLaws.{Gathering, gathered-none, mask-small, gathered-at, gathered-all}
+use Rattle.groups.proofs.GatheredLaws.{Gathering, gathered-none, mask-small, gathered-at, gathered-all}
 use Rattle.groups.proofs.gather_fours.Statement.{statement}
 use Rattle.groups.proofs.gather_fours.Tie as tie
 

@@ -4,7 +4,7 @@ use denote.Ref.{now}
 use native.Mathlib.Omega.{arith}
 use lib.ListN.{length}
 use borrow.Author.Needs.{needs}
-use Rattle.groups.proofs.TableLaws.{Gathering, gathered-none, mask-within, mask-set, gathered-more, gathered-all}
+use Rattle.groups.proofs.GatheredLaws.{Gathering, gathered-none, mask-within, mask-set, gathered-more, gathered-all}
 use Rattle.groups.proofs.gather_rest.Statement.{statement}
 use Rattle.groups.proofs.gather_rest.Tie as tie
 

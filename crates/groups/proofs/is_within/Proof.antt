@@ -1,6 +1,6 @@
 -- `groups::is_within`: by the code's `&`.
 use borrow.Author.Needs.{needs}
-use Rattle.groups.proofs.TableLaws.{within-test}
+use Rattle.groups.proofs.AddedLaws.{within-test}
 use Rattle.groups.proofs.is_within.Statement.{statement}
 use Rattle.groups.proofs.is_within.Tie as tie
 

@@ -1,6 +1,6 @@
 -- `groups::lines_inside`: the lines are put into an empty table, and spread.
 use mathlib.Core.Path.{refl}
-use Rattle.groups.proofs.TableLaws.{none-inside, reached-none, reached-all}
+use Rattle.groups.proofs.SpreadLaws.{none-inside, reached-none, reached-all}
 use Rattle.groups.proofs.lines_inside.Statement.{statement}
 use Rattle.groups.proofs.lines_inside.Tie as tie
 

@@ -1,6 +1,6 @@
 -- `groups::spread`: after each call the masks reach one signal further.
 use borrow.Author.Needs.{needs}
-use Rattle.groups.proofs.TableLaws.{reached-more}
+use Rattle.groups.proofs.SpreadLaws.{reached-more}
 use Rattle.groups.proofs.spread.Statement.{statement}
 use Rattle.groups.proofs.spread.Tie as tie
 

@@ -6,7 +6,7 @@ use borrow.Author.Needs.{needs}
 use Rattle.arith.proofs.Bits.{bit-is}
 use Rattle.arith.proofs.Tables.{written-none, written-more, written-all}
 use Rattle.arith.specs.Tables.{Written}
-use Rattle.groups.proofs.TableLaws.{HighWord, high-word, high-spread, spread-by}
+use Rattle.groups.proofs.SpreadLaws.{HighWord, high-word, high-spread, spread-by}
 use Rattle.groups.proofs.spread_high.Statement.{statement}
 use Rattle.groups.proofs.spread_high.Tie as tie
 

@@ -2,7 +2,7 @@
 use Prim.Native.Nat.{_-_, _≤_}
 use Rattle.arith.proofs.Tables.{written-none, written-more, written-all}
 use Rattle.arith.specs.Tables.{Written}
-use Rattle.groups.proofs.TableLaws.{LowWord, low-word, low-spread}
+use Rattle.groups.proofs.SpreadLaws.{LowWord, low-word, low-spread}
 use native.Mathlib.Omega.{arith}
 use borrow.Author.Needs.{needs}
 use Rattle.groups.proofs.spread_low.Statement.{statement}
