@@ -11,6 +11,7 @@ use printing::print_logger;
 use printing::print_number;
 use printing::print_rod;
 use printing::print_words;
+use vectors::SETS;
 use vectors::after_word;
 use vectors::book_vector;
 use vectors::signal_set;
@@ -22,13 +23,10 @@ ghost use lib.ListN.{length};
 const FIRST_MARK: u32 = 4000000000;
 
 // More marks than there are words in the space, so that no two words have the same.
-const MARKS: usize = 1000000;
+const MARKS: usize = 1048576;
 
 // How many words a record has.
 const RECORD: usize = 4;
-
-// How many signal sets there are.
-const SETS: usize = 65536;
 
 // A checksum stays below this prime.
 const PRIME: u64 = 1000000007;
@@ -36,12 +34,12 @@ const PRIME: u64 = 1000000007;
 // By this a checksum tells the order of the words.
 const FACTOR: u64 = 31;
 
-// What rod and score say of a set, as numbers: the same for both only where it is yes or no.
+// What rod and score say of a set, as numbers. Where neither says yes or no, the numbers differ.
 const NO: usize = 0;
 
 const YES: usize = 1;
 
-const ROD_DECLINED: usize = 2;
+const DIFFER: usize = 2;
 
 const SCORE_DECLINED: usize = 3;
 
@@ -167,7 +165,7 @@ fn rod_number(d: rod::Decision) -> usize {
     match d {
         rod::Decision::No => NO,
         rod::Decision::Yes => YES,
-        _ => ROD_DECLINED,
+        _ => DIFFER,
     }
 }
 
@@ -179,11 +177,11 @@ fn score_number(d: score::Decision) -> usize {
     }
 }
 
-// What rod and score both say, `YES` or `NO`, or a larger number.
+// What rod and score both say, `NO` or `YES`, or `DIFFER`.
 fn common_answer(bytes: &[u8], condition: u32, listing: &[u32], set: u16) -> usize {
     let r = rod_number(rod::decide(listing, set));
     let s = score_number(score::decide(bytes, condition, set));
-    if r == s { r } else { ROD_DECLINED }
+    if r == s { r } else { DIFFER }
 }
 
 fn print_differing(set: usize) {
@@ -207,7 +205,7 @@ fn print_agreement(bytes: &[u8], condition: u32, listing: &[u32], step: u32)
     let mut no = 0;
     while set < SETS {
         let answer = common_answer(bytes, condition, listing, set as u16);
-        if answer > YES {
+        if answer >= DIFFER {
             print_differing(set);
             return;
         }

@@ -38,31 +38,31 @@ fn run_choice(text: &[u8]) {
     print_chosen(checks::choice(&words[0..count]));
 }
 
-fn run_read(text: &[u8]) {
+fn run_read(text: &[u8]) -> bool {
     let mut numbers = [0u32; ROOM];
     let count = put_numbers(text, &mut numbers);
     if count == 0 {
-        print(b"no vector");
-        return;
+        return false;
     }
     let set = signal_set(numbers[0]);
     print_rod(rod::decide(&numbers[1..count], set));
+    true
 }
 
-fn run_compare(text: &[u8]) {
+fn run_compare(text: &[u8]) -> bool {
     let slash = index_of(text, 0, b'/');
     if slash == text.len() {
-        print(b"no vector");
-        return;
+        return false;
     }
     let mut one = [0u32; ROOM];
     let mut two = [0u32; ROOM];
     let first = put_numbers(&text[0..slash], &mut one);
     let second = put_numbers(&text[slash + 1..], &mut two);
     print_comparison(checks::compare(&one[0..first], &two[0..second]));
+    true
 }
 
-// The sets of a vector, one for each place.
+// The sets that the numbers give, one for each place.
 fn put_sets(numbers: &[u32], sets: &mut [u16])
     requires { ⌜ length (now sets) ≤ length (now numbers) ⌝ }
     ensures { λ r. ⌜ length (now (sets .exit)) ≡ length (now (sets .entry)) ⌝ }
@@ -74,7 +74,7 @@ fn put_sets(numbers: &[u32], sets: &mut [u16])
     }
 }
 
-fn run_sets(numbers: &[u32], words: &[u32], sets: &mut [u16], answers: &mut [u8])
+fn traverse_sets(numbers: &[u32], words: &[u32], sets: &mut [u16], answers: &mut [u8])
     requires { ⌜ length (now sets) ≤ length (now numbers) ⌝ }
 {
     put_sets(numbers, sets);
@@ -88,40 +88,38 @@ fn wide(number: u32) -> usize {
 }
 
 // The first number is how many answers are lent, the others are the sets.
-fn run_numbers(numbers: &[u32], words: &[u32])
+fn traverse_numbers(numbers: &[u32], words: &[u32]) -> bool
     requires { ⌜ length (now numbers) ≤ 512 ⌝ }
 {
     if numbers.len() == 0 {
-        print(b"no vector");
-        return;
+        return false;
     }
     let lent = wide(numbers[0]);
     if lent > ROOM {
-        print(b"no vector");
-        return;
+        return false;
     }
     let asked = numbers.len() - 1;
     let mut sets = [0u16; ROOM];
     let mut answers = [LENT; ROOM];
-    run_sets(
+    traverse_sets(
         &numbers[1..],
         words,
         &mut sets[0..asked],
         &mut answers[0..lent],
     );
+    true
 }
 
-fn run_traverse(text: &[u8]) {
+fn run_traverse(text: &[u8]) -> bool {
     let slash = index_of(text, 0, b'/');
     if slash == text.len() {
-        print(b"no vector");
-        return;
+        return false;
     }
     let mut numbers = [0u32; ROOM];
     let mut words = [0u32; ROOM];
     let first = put_numbers(&text[0..slash], &mut numbers);
     let second = put_numbers(&text[slash + 1..], &mut words);
-    run_numbers(&numbers[0..first], &words[0..second]);
+    traverse_numbers(&numbers[0..first], &words[0..second])
 }
 
 // Answers a vector of listings, and tells whether the line is one.
@@ -133,16 +131,17 @@ pub fn answered(line: &[u8]) -> bool {
     let traverse = after_word(line, b"traverse");
     if verdict > 0 {
         run_verdict(&line[verdict..]);
+        true
     } else if read > 0 {
-        run_read(&line[read..]);
+        run_read(&line[read..])
     } else if choice > 0 {
         run_choice(&line[choice..]);
+        true
     } else if compare > 0 {
-        run_compare(&line[compare..]);
+        run_compare(&line[compare..])
     } else if traverse > 0 {
-        run_traverse(&line[traverse..]);
+        run_traverse(&line[traverse..])
     } else {
-        return false;
+        false
     }
-    true
 }

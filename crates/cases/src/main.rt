@@ -12,7 +12,7 @@ use vectors::index_of;
 use vectors::put_line_ends;
 
 // Room for the vectors: what comes after so many bytes is not read.
-const TEXT: usize = 262144;
+const VECTORS: usize = 262144;
 
 // Room for the largest listing of the cases, which has 205,952 records.
 const SPACE: usize = 823808;
@@ -50,7 +50,7 @@ fn run_lines(text: &mut [u8], space: &mut [u32]) {
 }
 
 fn main() {
-    let mut text = [0u8; TEXT];
+    let mut text = [0u8; VECTORS];
     let length = io::read_full(libc::STDIN_FILENO, &mut text);
     let mut space = [0u32; SPACE];
     run_lines(&mut text[0..length], &mut space);

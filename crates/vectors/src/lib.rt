@@ -7,7 +7,7 @@ ghost use lib.ListN.{length};
 const LARGEST: u32 = 4294967295;
 
 // How many signal sets there are.
-const SETS: u32 = 65536;
+pub const SETS: usize = 65536;
 
 // A number in a line, and the index after the byte that ends it.
 pub struct Number {
@@ -50,7 +50,7 @@ pub fn number_at(line: &[u8], at: usize) -> Number
 
 // The signal set that a number of a vector gives.
 pub fn signal_set(number: u32) -> u16 {
-    (number % SETS) as u16
+    (number as usize % SETS) as u16
 }
 
 // What a vector asks of a book: a condition and one number more, and where the book begins.
