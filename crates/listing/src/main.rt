@@ -1,19 +1,26 @@
 // The program `listing`: a book on standard input; for each of its conditions the listing and its choice, or that it was
 // declined, on standard output.
 use printing::print;
+use printing::print_checked;
 use printing::print_choice;
+use printing::print_compiled;
+use printing::print_end;
 use printing::print_number;
-use printing::print_refusal;
 ghost use Prim.Native.Nat.{_*_, _≤_};
 ghost use lib.ListN.{length};
 
-fn print_end() {
-    print(b"\n");
-}
+// One byte more than a book may have, so that a longer one is refused and not cut.
+const BYTES: usize = 8193;
 
-// What stands after the i-th word: a record has four, on a line.
+// Space for 4,096 records.
+const WORDS: usize = 16384;
+
+// How many words a record has.
+const RECORD: usize = 4;
+
+// What stands after the i-th word: a record has a line.
 fn print_after(i: usize) {
-    if i % 4 == 0 {
+    if i % RECORD == 0 {
         print_end();
     } else {
         print(b" ");
@@ -39,7 +46,8 @@ fn print_listing(condition: u32, records: usize, words: &[u32])
     print(b" records ");
     print_number(records as u64);
     print_end();
-    let listing = &words[..records * 4];
+    let end = records * RECORD;
+    let listing = &words[0..end];
     print_records(listing);
     print_choice(checks::choice(listing));
     print_end();
@@ -47,23 +55,19 @@ fn print_listing(condition: u32, records: usize, words: &[u32])
 
 fn list_condition(bytes: &[u8], condition: u32, words: &mut [u32]) {
     let answer = compiler::compile(bytes, condition, words);
-    match answer {
-        compiler::Compiled::Records(records) => print_listing(condition, records, words),
-        compiler::Compiled::Refused(refusal) => {
-            print_refusal(refusal);
-            print_end();
-        }
-        compiler::Compiled::NoCondition => print(b"refused 7 0\n"),
-        compiler::Compiled::NoRoom => print(b"refused 8 0\n"),
-    }
+    let compiler::Compiled::Records(records) = answer else {
+        print_compiled(answer);
+        print_end();
+        return;
+    };
+    print_listing(condition, records, words);
 }
 
 // A declined condition leaves the words as they were, and the next ones go on.
 fn list_conditions(bytes: &[u8], conditions: usize)
     requires { ⌜ conditions ≤ 8 ⌝ }
 {
-    // Space for 4,096 records.
-    let mut words = [0u32; 16384];
+    let mut words = [0u32; WORDS];
     let mut k = 0;
     while k < conditions {
         list_condition(bytes, k as u32, &mut words);
@@ -74,21 +78,20 @@ fn list_conditions(bytes: &[u8], conditions: usize)
 // A declined book prints nothing but its refusal, so it is judged before its conditions.
 fn list_book(bytes: &[u8]) {
     let checked = book::check(bytes);
-    match checked {
-        book::Checked::Accepted {
-            policies,
-            conditions,
-        } => list_conditions(bytes, conditions),
-        book::Checked::Refused(refusal) => {
-            print_refusal(refusal);
-            print_end();
-        }
-    }
+    let book::Checked::Accepted {
+        policies,
+        conditions,
+    } = checked
+    else {
+        print_checked(checked);
+        print_end();
+        return;
+    };
+    list_conditions(bytes, conditions);
 }
 
 fn main() {
-    // One byte more than a book may have, so that a longer one is refused and not cut.
-    let mut bytes = [0u8; 8193];
-    let n = io::read_full(libc::STDIN_FILENO, &mut bytes);
-    list_book(&bytes[..n]);
+    let mut bytes = [0u8; BYTES];
+    let length = io::read_full(libc::STDIN_FILENO, &mut bytes);
+    list_book(&bytes[0..length]);
 }

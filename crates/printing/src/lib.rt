@@ -1,11 +1,43 @@
-// The answers of the calls on standard output, in document 01's words and numbers, for the programs. No line end is added.
+// The answers of the calls on standard output, in document 01's words and numbers, for the programs. `print_end`
+// alone ends a line.
 
 pub fn print(text: &[u8]) {
     io::write_all(libc::STDOUT_FILENO, text);
 }
 
+pub fn print_end() {
+    print(b"\n");
+}
+
 pub fn print_number(n: u64) {
     io::print_decimal(libc::STDOUT_FILENO, n);
+}
+
+fn print_word(word: u32) {
+    print(b" ");
+    print_number(word as u64);
+}
+
+// Numbers, each after a space.
+pub fn print_words(words: &[u32]) {
+    let mut i = 0;
+    while i < words.len() {
+        print_word(words[i]);
+        i += 1;
+    }
+}
+
+fn print_byte(byte: u8) {
+    print_word(byte as u32);
+}
+
+// Bytes as numbers, each after a space.
+pub fn print_bytes(bytes: &[u8]) {
+    let mut i = 0;
+    while i < bytes.len() {
+        print_byte(bytes[i]);
+        i += 1;
+    }
 }
 
 fn print_signed(n: i64) {
@@ -37,10 +69,9 @@ pub fn print_fault(fault: layout::Fault) {
 }
 
 fn print_both(yes: u16, no: u16) {
-    print(b"both ");
-    print_number(yes as u64);
-    print(b" ");
-    print_number(no as u64);
+    print(b"both");
+    print_word(yes as u32);
+    print_word(no as u32);
 }
 
 // The choice alone, without how many sets were judged.
@@ -53,11 +84,94 @@ pub fn print_choice(c: checks::ChoiceAnswer) {
     }
 }
 
+fn print_judged(judged: u32) {
+    print(b" judged ");
+    print_number(judged as u64);
+}
+
+// The choice, and how many sets were judged.
+pub fn print_chosen(c: checks::ChoiceAnswer) {
+    print_choice(c);
+    match c {
+        checks::ChoiceAnswer::Always(judged) => print_judged(judged),
+        checks::ChoiceAnswer::Never(judged) => print_judged(judged),
+        checks::ChoiceAnswer::Both(_, _, judged) => print_judged(judged),
+        checks::ChoiceAnswer::Declined(_) => {}
+    }
+}
+
+fn print_difference(set: u16, which: &[u8]) {
+    print(b"set ");
+    print_number(set as u64);
+    print(which);
+}
+
+pub fn print_comparison(c: checks::ComparisonAnswer) {
+    match c {
+        checks::ComparisonAnswer::Alike => print(b"alike"),
+        checks::ComparisonAnswer::FirstYes(set) => print_difference(set, b" first"),
+        checks::ComparisonAnswer::SecondYes(set) => print_difference(set, b" second"),
+        checks::ComparisonAnswer::FirstDeclined(fault) => {
+            print(b"first ");
+            print_fault(fault);
+        }
+        checks::ComparisonAnswer::SecondDeclined(fault) => {
+            print(b"second ");
+            print_fault(fault);
+        }
+    }
+}
+
+pub fn print_verdict(v: layout::Verdict) {
+    match v {
+        layout::Verdict::Sound => print(b"sound"),
+        layout::Verdict::Declined(fault) => print_fault(fault),
+    }
+}
+
 pub fn print_rod(d: rod::Decision) {
     match d {
         rod::Decision::Yes => print(b"yes"),
         rod::Decision::No => print(b"no"),
         rod::Decision::Declined(fault) => print_fault(fault),
+    }
+}
+
+pub fn print_traversed(t: rod::Traversed) {
+    match t {
+        rod::Traversed::Answered(n) => {
+            print(b"answered ");
+            print_number(n as u64);
+        }
+        rod::Traversed::Unequal => print_refused(11, 0),
+        rod::Traversed::Declined(fault) => print_fault(fault),
+    }
+}
+
+pub fn print_checked(c: book::Checked) {
+    match c {
+        book::Checked::Accepted {
+            policies,
+            conditions,
+        } => {
+            print(b"accepted ");
+            print_number(policies as u64);
+            print(b" ");
+            print_number(conditions as u64);
+        }
+        book::Checked::Refused(refusal) => print_refusal(refusal),
+    }
+}
+
+pub fn print_compiled(c: compiler::Compiled) {
+    match c {
+        compiler::Compiled::Records(records) => {
+            print(b"records ");
+            print_number(records as u64);
+        }
+        compiler::Compiled::Refused(refusal) => print_refusal(refusal),
+        compiler::Compiled::NoCondition => print_refused(7, 0),
+        compiler::Compiled::NoRoom => print_refused(8, 0),
     }
 }
 

@@ -12,41 +12,8 @@ Inv-loop bytes conditions words₀ k₀ words k = length words ≡ 16384
 abbrev μ-loop : tie.MeasureT-loop
 μ-loop bytes conditions words₀ k₀ words k = conditions - k
 
-loop-holds : tie.Need-loop-holds Inv-loop μ-loop
-loop-holds c = search needs
-
-cast-list-condition : tie.Need-cast-list-condition Inv-loop μ-loop
-cast-list-condition c = search needs
-
-slice-aggregate-list-condition : tie.Need-slice-aggregate-list-condition Inv-loop μ-loop
-slice-aggregate-list-condition c = search needs
-
-list-condition-requires : tie.Need-list-condition-requires Inv-loop μ-loop
-list-condition-requires c κs = search needs
-
-add-k : tie.Need-add-k Inv-loop μ-loop
-add-k c = search needs
-
-loop-less : tie.Need-loop-less Inv-loop μ-loop
-loop-less c = search needs
-
-loop-again : tie.Need-loop-again Inv-loop μ-loop
-loop-again c = search needs
-
-returns : tie.Need-returns Inv-loop μ-loop
-returns c = search needs
-
 pub list-conditions-spec : {M : Type 1} → statement M
 list-conditions-spec =
     tie.close
-    (tie.spec
-    Inv-loop
-    μ-loop
-    loop-holds
-    cast-list-condition
-    slice-aggregate-list-condition
-    list-condition-requires
-    add-k
-    loop-less
-    loop-again
-    returns)
+    (tie.spec Inv-loop μ-loop (λ c. search needs) (λ c. search needs) (λ c. search needs) (λ c κs. search needs)
+    (λ c. search needs) (λ c. search needs) (λ c. search needs) (λ c. search needs))

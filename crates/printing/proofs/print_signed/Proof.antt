@@ -21,12 +21,6 @@ below : (n : ℤ) → SFits w64 n → ltZ n (pos 0) ≡ true → (k : ℕ) × (n
 below (pos n) f h = clash h (le-ltb n 0 (omega arith))
 below (negsuc k) f h = (k, rw (le-ltb (suc k) 1 (omega arith)) (ap pos (omega arith)), f .sfits)
 
-slice-aggregate-print : tie.Need-slice-aggregate-print
-slice-aggregate-print c = search needs
-
-print-requires : tie.Need-print-requires
-print-requires c κs = search needs
-
 module _ (c : tie.After-print) where
   abbrev number : ℤ
   number = c .before .before .before .args .n
@@ -52,9 +46,6 @@ cast-print-number c = let (k, e, l) = distance c in natural-fits _ k (distance-b
 add-print-number : tie.Need-add-print-number
 add-print-number c = let (k, e, l) = distance c in fits-of-lt (omega (arith, ap natAbs (distance-back c ∙ e)))
 
-print-number-requires : tie.Need-print-number-requires
-print-number-requires c κs = search needs
-
 -- at zero and above
 cast-print-number-2 : tie.Need-cast-print-number-2
 cast-print-number-2 c =
@@ -65,26 +56,8 @@ cast-print-number-2 c =
     above (pos n) f h = natural-fits (pos n) n refl (omega (arith, f .sfits))
     above (negsuc n) f h = clash refl h
 
-print-number-requires-2 : tie.Need-print-number-requires-2
-print-number-requires-2 c κs = search needs
-
-returns : tie.Need-returns
-returns c = search needs
-
-returns-2 : tie.Need-returns-2
-returns-2 c = search needs
-
 pub print-signed-spec : {M : Type 1} → statement M
 print-signed-spec =
     tie.close
-    (tie.spec
-    slice-aggregate-print
-    print-requires
-    sub-print-number
-    cast-print-number
-    add-print-number
-    print-number-requires
-    cast-print-number-2
-    print-number-requires-2
-    returns
-    returns-2)
+    (tie.spec (λ c. search needs) (λ c κs. search needs) sub-print-number cast-print-number add-print-number
+    (λ c κs. search needs) cast-print-number-2 (λ c κs. search needs) (λ c. search needs) (λ c. search needs))
