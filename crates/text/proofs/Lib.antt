@@ -1,6 +1,7 @@
 pub mod TextLaws
 pub mod NumberLaws
-pub mod LineLaws
+pub mod WordLaws
+pub mod FieldLaws
 pub mod CodeLaws
 pub mod ExpressionLaws
 pub mod MentionLaws
