@@ -1,4 +1,4 @@
--- Laws of expressions: what reading an expression, a policy number and a pair at a place comes to, and what it adds to the codes.
+-- Laws of expressions: what reading a policy number, a join and an expression at a place comes to, and what it adds to the codes.
 use Prim.Native.Nat.{ℕ, zero, suc, _+_, _-_, _≤_, _<_}
 use mathlib.Core.Path.{_≡_, refl, sym, ap, subst, _∙_}
 use mathlib.Core.Bool.{Bool, true, false, cond}
@@ -13,7 +13,7 @@ use Rattle.arith.specs.Trees.{leaf, join, joining}
 use Rattle.peal.specs.Policies.{MinMax, smaller, larger, Expression}
 use Rattle.text.specs.Text.{bytes, begins}
 use Rattle.text.specs.Numbers.{natural}
-use Rattle.text.specs.Expressions.{mentionWord, minMaxWord, digitCount, mention, leadingJoin, leadingExpression, leadingPair, nothingAfter, expression}
+use Rattle.text.specs.Expressions.{mentionWord, minMaxWord, digitCount, mention, leadingJoin, leadingExpression, nothingAfter, expression}
 use Rattle.text.specs.Codes.{codeOf, codesOf}
 use Rattle.text.specs.Parsing.{CanRead, CodePut, JoinRead, MentionRead, Leads, TreeRead, LeadingRead, PairLeads, TwoRead, PairRead, WholeRead, ExpressionRead}
 use Rattle.text.specs.declared.expressions.Join.{Join}
@@ -21,7 +21,7 @@ use Rattle.text.specs.declared.expressions.Join.the-variants.{Code, NoJo
 use Rattle.text.specs.declared.expressions.Parsed.{Parsed}
 use Rattle.text.specs.declared.expressions.Parsed.the-variants.{Read, NoExpression}
 use Rattle.text.proofs.NumberLaws.{none-some, digits-within, natural-length}
-use Rattle.text.proofs.WordLaws.{word-room, after-word, no-word}
+use Rattle.text.proofs.WordLaws.{word-room}
 use Rattle.text.proofs.CodeLaws.{codes-leaf, codes-join}
 
 -- ---- what a contract says, by the answer that was given
@@ -62,13 +62,9 @@ no-join s r h e = subst (JoinRead s) e h
 
 -- ---- room
 
--- further on in the line, and after a left one
+-- further on in the line
 pub can-on : (line : List ℕ) (at k n : ℕ) → CanRead line at n → at + k ≤ length line → CanRead line (at + k) n
 can-on line at k n can h = record { short = can .short; within = h; room = omega (arith, can .room) }
-
-pub can-right : (line : List ℕ) (at n : ℕ) (before : List ℕ) (comma first : ℕ) (middle : List ℕ) → CanRead line at n → TreeRead line (at + 1) n before comma first middle → comma + 1 ≤ length line
-    → CanRead line (comma + 1) first
-can-right line at n before comma first middle can a h = record { short = can .short; within = h; room = omega (arith, can .room, a .read .room) }
 
 -- ---- codes
 
@@ -199,62 +195,6 @@ module _ (line : List ℕ) (at n : ℕ) (before : List ℕ) where
                       (append-assoc (take n before) (codesOf (g .left) ++ codesOf (g .right)) (codeOf (joining m) ∷ []));
                 };
           })
-
--- ---- a pair, sign by sign
-
-module _ (line : List ℕ) (at n : ℕ) (before codes : List ℕ) where
-  pairs : {a b : Expression} {s : List ℕ} → at < length line → ((j : ℕ) → length line ≤ suc j + at → leadingPair (suc j) (drop at line) ≡ some (a, b, s)) → PairLeads line at (some (a, b, s))
-  pairs w f zero l = absurd (omega arith)
-  pairs w f (suc j) l = f j l
-
-  pairs-not : ((j : ℕ) → length line ≤ suc j + at → leadingPair (suc j) (drop at line) ≡ none) → PairRead line at n before NoExpression codes
-  unfolding PairRead leadingPair
-  pairs-not f zero l = refl
-  pairs-not f (suc j) l = f j l
-
-  pub pair-no-open : begins (bytes "(") (drop at line) ≡ false → PairRead line at n before NoExpression codes
-  unfolding leadingPair
-  pair-no-open h = pairs-not (λ j l. rw (no-word (bytes "(") (drop at line) h))
-
-  module _ (h : begins (bytes "(") (drop at line) ≡ true) where
-    pub pair-no-left : Leads line (at + 1) none → PairRead line at n before NoExpression codes
-    unfolding leadingPair
-    pair-no-left f = pairs-not (λ j l. rw (after-word (bytes "(") line at h, f j (omega arith)))
-
-    module _ {comma first : ℕ} {middle : List ℕ} (a : TreeRead line (at + 1) n before comma first middle) where
-      pub pair-no-comma : begins (bytes ",") (drop comma line) ≡ false → PairRead line at n before NoExpression codes
-      unfolding leadingPair
-      pair-no-comma c = pairs-not (λ j l. rw (after-word (bytes "(") line at h, a .found j (omega arith), no-word (bytes ",") (drop comma line) c))
-
-      module _ (c : begins (bytes ",") (drop comma line) ≡ true) where
-        pub pair-no-right : Leads line (comma + 1) none → PairRead line at n before NoExpression codes
-        unfolding leadingPair
-        pair-no-right f = pairs-not (λ j l. rw (after-word (bytes "(") line at h, a .found j (omega arith), after-word (bytes ",") line comma c, f j (omega (arith, a .read .forward))))
-
-        module _ {end count : ℕ} (b : TreeRead line (comma + 1) first middle end count codes) where
-          pub pair-no-close : begins (bytes ")") (drop end line) ≡ false → PairRead line at n before NoExpression codes
-          unfolding leadingPair
-          pair-no-close d =
-              pairs-not (λ j l. rw (after-word (bytes "(") line at h, a .found j (omega arith), after-word (bytes ",") line comma c, b .found j (omega (arith, a .read .forward)), no-word (bytes ")") (drop end line) d))
-
-          pub pair-both : at ≤ length line → begins (bytes ")") (drop end line) ≡ true → PairRead line at n before (Read (end + 1) count) codes
-          unfolding PairRead leadingPair
-          pair-both w d =
-              record {
-                left = a .tree;
-                right = b .tree;
-                found =
-                    pairs (omega (arith, word-room (bytes "(") line at w h))
-                    (λ j l. rw (after-word (bytes "(") line at h, a .found j (omega arith), after-word (bytes ",") line comma c, b .found j (omega (arith, a .read .forward)), after-word (bytes ")") line end d));
-                read =
-                    record {
-                      within = word-room (bytes ")") line end (b .read .within) d;
-                      forward = omega (arith, a .read .forward, b .read .forward);
-                      room = omega (arith, a .read .room, b .read .room);
-                      counted = omega (arith, a .read .counted, b .read .counted, length-append (codesOf (a .tree)) (codesOf (b .tree)));
-                      same = b .read .same ∙ rw (a .read .same) (append-assoc (take n before) (codesOf (a .tree)) (codesOf (b .tree)));
-                    };
-              }
 
 -- ---- the whole field
 

@@ -4,5 +4,6 @@ pub mod WordLaws
 pub mod FieldLaws
 pub mod CodeLaws
 pub mod ExpressionLaws
+pub mod PairLaws
 pub mod MentionLaws
 pub mod FormMentions
