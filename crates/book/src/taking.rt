@@ -12,8 +12,10 @@ use crate::storing::put_condition;
 use crate::storing::put_exclusion;
 use crate::storing::put_policy;
 use crate::storing::put_rule;
+use text::CODE_COUNT;
 use text::Line;
 use text::LineRead;
+use text::Parsed;
 use text::read_expression;
 use text::read_line;
 ghost use Prim.Native.Nat.{_≤_};
@@ -185,15 +187,13 @@ fn take_form(cells: &mut Cells, s: SoFar, line: &[u8], top: bool, form: Line) ->
         Line::Condition {
             sense,
             threshold,
-            start,
+            from,
         } => {
-            let mut codes = [0u32; 31];
-            let p = read_expression(line, start, &mut codes);
-            if p.ok {
-                take_condition(cells, s, sense, threshold, &codes, p.length)
-            } else {
-                refused(s, Reason::NoForm)
-            }
+            let mut codes = [0u32; CODE_COUNT];
+            let Parsed::Read { count, .. } = read_expression(line, from, &mut codes) else {
+                return refused(s, Reason::NoForm);
+            };
+            take_condition(cells, s, sense, threshold, &codes, count)
         }
         Line::Exclusion { first, second } => take_exclusion(cells, s, first, second),
         Line::OldZero => take_old_zero(s, top),

@@ -16,9 +16,9 @@ use Rattle.text.specs.Numbers.{natural, number}
 use Rattle.text.specs.Expressions.{expression}
 use Rattle.text.specs.Forms.{Form, oldZero, policy, rule, exclusion, condition, operator, sense, barePolicy, fullPolicy, ruleLine, exclusionLine, conditionLine, formOf, form}
 use Rattle.arith.specs.Trees.{leafCount}
-use Rattle.text.proofs.LineLaws.{number-length, sense-length}
+use Rattle.text.proofs.FieldLaws.{number-length, sense-length}
 use Rattle.text.proofs.MentionLaws.{expression-fits}
-use Rattle.text.proofs.TextLaws.{is-length}
+use Rattle.text.proofs.WordLaws.{is-length}
 
 -- the bytes of some pieces, with one for the end of each
 span : List (List ℕ) → ℕ

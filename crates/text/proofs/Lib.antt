@@ -1,7 +1,9 @@
 pub mod TextLaws
 pub mod NumberLaws
-pub mod LineLaws
+pub mod WordLaws
+pub mod FieldLaws
 pub mod CodeLaws
 pub mod ExpressionLaws
+pub mod PairLaws
 pub mod MentionLaws
 pub mod FormMentions

@@ -1,6 +1,6 @@
 -- Laws of numbers: what a test of the code settles of the definitions, how large numbers get, and small numbers in 32 bits.
 use Prim.Native.Nat.{ℕ, zero, suc, _+_, _-_, _*_, _^_, _≤_, _<_}
-use mathlib.Core.Bool.{Bool, true, false, _&&_}
+use mathlib.Core.Bool.{Bool, true, false, cond, _&&_}
 use mathlib.Core.List.{List, [], _∷_}
 use mathlib.Core.Option.{Option, none, some}
 use mathlib.Core.Path.{_≡_, refl, _∙_}
@@ -103,6 +103,15 @@ pub count-done : (s : List ℕ) (i : ℕ) → length s ≤ i → digitCount (dro
 unfolding digitCount
 count-done s i h = rw (drop-of-length-le s h)
 
+pub digits-within : (s : List ℕ) → digitCount s ≤ length s
+unfolding digitCount
+digits-within [] = omega arith
+digits-within (b ∷ s) = go (isDigit b) (digits-within s)
+  where
+    go : (t : Bool) → digitCount s ≤ length s → cond t (suc (digitCount s)) 0 ≤ suc (length s)
+    go true h = omega arith
+    go false h = omega arith
+
 -- ---- sizes
 
 -- fewer than six digits
@@ -137,6 +146,13 @@ natural-small s n e =
     let t = and-left (leb 1 (length s) && leb (length s) 6) (noLeadingZero s) (q .0) in
     let l = leb-true (length s) 6 (and-right (leb 1 (length s)) (leb (length s) 6) t) in
     omega (arith, digits-small 0 s n (q .1), pow-le-pow-right {n = 10} (lit< tt) {i = length s} {j = 6} l)
+
+pub natural-length : (s : List ℕ) (n : ℕ) → natural s ≡ some n → 1 ≤ length s
+unfolding natural
+natural-length s n e =
+    let q = if-some (leb 1 (length s) && leb (length s) 6 && noLeadingZero s) (withDigits 0 s) e in
+    let t = and-left (leb 1 (length s) && leb (length s) 6) (noLeadingZero s) (q .0) in
+    leb-true 1 (length s) (and-left (leb 1 (length s)) (leb (length s) 6) t)
 
 -- ---- a number, by its first byte
 

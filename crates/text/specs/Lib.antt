@@ -5,4 +5,5 @@ pub mod Forms
 pub mod Spelling
 pub mod LineMeaning
 pub mod Codes
+pub mod Parsing
 pub mod Computing

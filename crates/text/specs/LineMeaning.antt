@@ -1,6 +1,6 @@
 -- What the reader of a line answers.
-use Prim.Native.Nat.{ℕ, _≤_}
-use mathlib.Core.List.{List}
+use Prim.Native.Nat.{ℕ, _+_, _≤_}
+use mathlib.Core.List.{List, [], _∷_}
 use mathlib.Core.Option.{Option, none, some}
 use mathlib.Core.Path.{_≡_}
 use lib.ListN.{length, drop}
@@ -11,7 +11,7 @@ use Rattle.text.specs.declared.lines.Line.the-variants.{Policy, BarePoli
 use Rattle.text.specs.declared.lines.LineRead.{LineRead}
 use Rattle.text.specs.declared.lines.LineRead.the-variants.{Good, NoForm}
 
--- the form that was read; a condition's expression is what stands from its start on
+-- the form that was read; a condition's expression is what stands from its place on
 abbrev pub lineMeaning : List ℕ → LineRead → Option Form
 lineMeaning line (Good OldZero) = some oldZero
 lineMeaning line (Good (Policy o d)) = some (policy o (some d))
@@ -36,3 +36,13 @@ StartIn line NoForm = Unit {0}
 -- what is read of a line is the form that these fields have
 abbrev pub Says : List ℕ → List (List ℕ) → LineRead → Type 0
 Says line fs r = (lineMeaning line r ≡ formOf fs) × StartIn line r
+
+-- what is read of these fields is their form, whichever line has them
+abbrev pub FieldsSay : List (List ℕ) → LineRead → Type 0
+FieldsSay fs r = (line : List ℕ) → Says line fs r
+
+-- the same of three fields and a fourth, which stands from a place on: after the three and a space after each
+abbrev pub FourSay : (kind second third : List ℕ) → ℕ → LineRead → Type 0
+FourSay kind second third from r =
+    (line : List ℕ) → 3 + length kind + length second + length third ≤ from → from ≤ length line
+    → Says line (kind ∷ second ∷ third ∷ drop from line ∷ []) r

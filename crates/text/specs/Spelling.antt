@@ -11,10 +11,10 @@ use Rattle.text.specs.declared.numbers.NaturalRead.{NaturalRead}
 use Rattle.text.specs.declared.numbers.NaturalRead.the-variants.{Natural, NotANatural}
 use Rattle.text.specs.declared.numbers.NumberRead.{NumberRead}
 use Rattle.text.specs.declared.numbers.NumberRead.the-variants.{Number, NotANumber}
-use Rattle.text.specs.declared.words.OperatorRead.{OperatorRead}
-use Rattle.text.specs.declared.words.OperatorRead.the-variants as OperatorField
-use Rattle.text.specs.declared.words.SenseRead.{SenseRead}
-use Rattle.text.specs.declared.words.SenseRead.the-variants as SenseField
+use Rattle.text.specs.declared.keywords.OperatorRead.{OperatorRead}
+use Rattle.text.specs.declared.keywords.OperatorRead.the-variants as OperatorField
+use Rattle.text.specs.declared.keywords.SenseRead.{SenseRead}
+use Rattle.text.specs.declared.keywords.SenseRead.the-variants as SenseField
 
 -- how many bytes of s stand before the first x; all of them where there is none
 unfoldable pub upTo : ℕ → List ℕ → ℕ

@@ -70,14 +70,14 @@ pub fn begins(s: &[u8], at: usize, word: &[u8]) -> bool
 }
 
 // The byte x stands at `at`.
-pub fn has(s: &[u8], at: usize, x: u8) -> bool
+pub fn has_byte(s: &[u8], at: usize, x: u8) -> bool
     ensures { λ r. ⌜ r ≡ beginsWith (x ∷ []) (drop at (now (s .entry))) ⌝ }
 {
     if at < s.len() { s[at] == x } else { false }
 }
 
 // The field is the word.
-pub fn same(field: &[u8], word: &[u8]) -> bool
+pub fn is_word(field: &[u8], word: &[u8]) -> bool
     ensures { λ r. ⌜ r ≡ isWord (now (word .entry)) (now (field .entry)) ⌝ }
 {
     if field.len() == word.len() {

@@ -2,12 +2,13 @@
 // The functions are for the crate `book`: each call is proved to meet its condition.
 mod bytes;
 mod expressions;
+mod keywords;
 mod lines;
 mod numbers;
-mod words;
 
 pub use bytes::next_byte;
-pub use expressions::Parse;
+pub use expressions::CODE_COUNT;
+pub use expressions::Parsed;
 pub use expressions::read_expression;
 pub use lines::Line;
 pub use lines::LineRead;

@@ -1,22 +1,20 @@
 // One line of a book, by its fields.
-ghost use mathlib.Core.List.{List, [], _∷_};
+ghost use mathlib.Core.List.{[], _∷_};
 ghost use mathlib.Core.Path.{_≡_};
-ghost use Prim.Native.Nat.{ℕ, _+_, _≤_};
-ghost use lib.ListN.{length, drop};
 ghost use Rattle.text.specs.Forms.{form};
-ghost use Rattle.text.specs.LineMeaning.{lineMeaning, StartIn, Says};
+ghost use Rattle.text.specs.LineMeaning.{lineMeaning, StartIn, FieldsSay, FourSay};
 use super::bytes::field_end;
-use super::bytes::same;
+use super::bytes::is_word;
+use super::keywords::OperatorRead;
+use super::keywords::SenseRead;
+use super::keywords::read_operator;
+use super::keywords::read_sense;
 use super::numbers::NaturalRead;
 use super::numbers::NumberRead;
 use super::numbers::read_natural;
 use super::numbers::read_number;
-use super::words::OperatorRead;
-use super::words::SenseRead;
-use super::words::read_operator;
-use super::words::read_sense;
 
-// What a line says. A condition's expression is not read yet: it stands from `start` to the line's end.
+// What a line says. A condition's expression is not read yet: it stands from the place `from` to the line's end.
 pub enum Line {
     Policy {
         operator: peal::Operator,
@@ -32,7 +30,7 @@ pub enum Line {
     Condition {
         sense: peal::Sense,
         threshold: i32,
-        start: usize,
+        from: usize,
     },
     Exclusion {
         first: u32,
@@ -49,9 +47,9 @@ pub enum LineRead {
 
 // `o`.
 fn one_field(kind: &[u8]) -> LineRead
-    ensures { λ r. ⌜ ((line : List ℕ) → Says line (now (kind .entry) ∷ []) r) ⌝ }
+    ensures { λ r. ⌜ FieldsSay (now (kind .entry) ∷ []) r ⌝ }
 {
-    if same(kind, b"o") {
+    if is_word(kind, b"o") {
         return LineRead::Good(Line::OldZero);
     }
     LineRead::NoForm
@@ -59,9 +57,9 @@ fn one_field(kind: &[u8]) -> LineRead
 
 // `p OP`.
 fn two_fields(kind: &[u8], second: &[u8]) -> LineRead
-    ensures { λ r. ⌜ ((line : List ℕ) → Says line (now (kind .entry) ∷ now (second .entry) ∷ []) r) ⌝ }
+    ensures { λ r. ⌜ FieldsSay (now (kind .entry) ∷ now (second .entry) ∷ []) r ⌝ }
 {
-    if same(kind, b"p") {
+    if is_word(kind, b"p") {
         let OperatorRead::Is(operator) = read_operator(second) else {
             return LineRead::NoForm;
         };
@@ -72,9 +70,9 @@ fn two_fields(kind: &[u8], second: &[u8]) -> LineRead
 
 // `p OP D`, `r S V`, or `x A B`.
 fn three_fields(kind: &[u8], second: &[u8], third: &[u8]) -> LineRead
-    ensures { λ r. ⌜ ((line : List ℕ) → Says line (now (kind .entry) ∷ now (second .entry) ∷ now (third .entry) ∷ []) r) ⌝ }
+    ensures { λ r. ⌜ FieldsSay (now (kind .entry) ∷ now (second .entry) ∷ now (third .entry) ∷ []) r ⌝ }
 {
-    if same(kind, b"p") {
+    if is_word(kind, b"p") {
         let OperatorRead::Is(operator) = read_operator(second) else {
             return LineRead::NoForm;
         };
@@ -83,7 +81,7 @@ fn three_fields(kind: &[u8], second: &[u8], third: &[u8]) -> LineRead
         };
         return LineRead::Good(Line::Policy { operator, default });
     }
-    if same(kind, b"r") {
+    if is_word(kind, b"r") {
         let NaturalRead::Natural(signal) = read_natural(second) else {
             return LineRead::NoForm;
         };
@@ -92,7 +90,7 @@ fn three_fields(kind: &[u8], second: &[u8], third: &[u8]) -> LineRead
         };
         return LineRead::Good(Line::Rule { signal, score });
     }
-    if same(kind, b"x") {
+    if is_word(kind, b"x") {
         let NaturalRead::Natural(first) = read_natural(second) else {
             return LineRead::NoForm;
         };
@@ -107,14 +105,11 @@ fn three_fields(kind: &[u8], second: &[u8], third: &[u8]) -> LineRead
     LineRead::NoForm
 }
 
-// `c T < E`, or `c T >= E`, where E is what stands from `start` on: after these three fields and a space after each.
-fn four_fields(kind: &[u8], second: &[u8], third: &[u8], start: usize) -> LineRead
-    ensures { λ r. ⌜ ((line : List ℕ)
-        → 3 + length (now (kind .entry)) + length (now (second .entry)) + length (now (third .entry)) ≤ start
-        → start ≤ length line
-        → Says line (now (kind .entry) ∷ now (second .entry) ∷ now (third .entry) ∷ drop start line ∷ []) r) ⌝ }
+// `c T < E`, or `c T >= E`, where E is what stands from `from` on: after these three fields and a space after each.
+fn four_fields(kind: &[u8], second: &[u8], third: &[u8], from: usize) -> LineRead
+    ensures { λ r. ⌜ FourSay (now (kind .entry)) (now (second .entry)) (now (third .entry)) from r ⌝ }
 {
-    if same(kind, b"c") {
+    if is_word(kind, b"c") {
         let NumberRead::Number(threshold) = read_number(second) else {
             return LineRead::NoForm;
         };
@@ -124,37 +119,39 @@ fn four_fields(kind: &[u8], second: &[u8], third: &[u8], start: usize) -> LineRe
         return LineRead::Good(Line::Condition {
             sense,
             threshold,
-            start,
+            from,
         });
     }
     LineRead::NoForm
 }
 
-// A line without its end: its fields stand from a0 to e0, from a1 to e1, and so on. A condition's expression begins after
-// six bytes at least, which bounds how many codes it can have.
+// A line without its end, by how many fields it has. A condition's expression begins after six bytes at least, which bounds how
+// many codes it can have.
 pub fn read_line(line: &[u8]) -> LineRead
     ensures { λ r. ⌜ (lineMeaning (now (line .entry)) r ≡ form (now (line .entry))) × StartIn (now (line .entry)) r ⌝ }
 {
     let n = line.len();
-    let a0 = 0;
-    let e0 = field_end(line, a0);
-    if e0 == n {
+    let kind_end = field_end(line, 0);
+    if kind_end == n {
         return one_field(line);
     }
-    let a1 = e0 + 1;
-    let e1 = field_end(line, a1);
-    if e1 == n {
-        return two_fields(&line[a0..e0], &line[a1..e1]);
+    let kind = &line[..kind_end];
+    let second_from = kind_end + 1;
+    let second_end = field_end(line, second_from);
+    let second = &line[second_from..second_end];
+    if second_end == n {
+        return two_fields(kind, second);
     }
-    let a2 = e1 + 1;
-    let e2 = field_end(line, a2);
-    if e2 == n {
-        return three_fields(&line[a0..e0], &line[a1..e1], &line[a2..e2]);
+    let third_from = second_end + 1;
+    let third_end = field_end(line, third_from);
+    let third = &line[third_from..third_end];
+    if third_end == n {
+        return three_fields(kind, second, third);
     }
-    let a3 = e2 + 1;
-    let e3 = field_end(line, a3);
-    if e3 == n {
-        return four_fields(&line[a0..e0], &line[a1..e1], &line[a2..e2], a3);
+    let from = third_end + 1;
+    let end = field_end(line, from);
+    if end == n {
+        return four_fields(kind, second, third, from);
     }
     LineRead::NoForm
 }

@@ -59,17 +59,23 @@ read-expression-requires c κs =
     let k = c .before .before in
     let s = k .before .before .before in
     let i = subst (λ (x : Line). StartIn (now (s .args .line)) (Good x)) (k .form4 .given .1) (s .pre .2) in
-    (s .pre .1, i .0, i .1)
+    record { short = s .pre .1; within = i .1; room = i .0 }
 
-take-condition-requires : tie.Need-take-condition-requires
-take-condition-requires c κs =
-    let t = c .before .before in
-    let p = t .before in
-    let x = expression-found _ _ _ _ (p .read-expression .ensures) (t .if1 .taken) in
-    (p .before .before .before .before .before .before .pre .0, p .read-expression .ensures .few (t .if1 .taken), (x .0, x .2))
+enum-known-count : tie.Need-enum-known-count
+enum-known-count c = search needs
+
+enum-told : tie.Need-enum-told
+enum-told c = search needs
 
 refused-requires : tie.Need-refused-requires
 refused-requires c κs = search needs
+
+take-condition-requires : tie.Need-take-condition-requires
+take-condition-requires c κs =
+    let t = c .before .before .before in
+    let p = t .before .before in
+    let x = expression-found _ _ _ _ (p .read-expression .ensures) (t .count .given .1) in
+    (p .before .before .before .before .before .before .pre .0, x .few, (x .tree, x .kept))
 
 enum-known-form-5 : tie.Need-enum-known-form-5
 enum-known-form-5 c = search needs
@@ -77,8 +83,8 @@ enum-known-form-5 c = search needs
 take-exclusion-requires : tie.Need-take-exclusion-requires
 take-exclusion-requires c κs = c .before .before .before .before .before .pre .0
 
-enum-told : tie.Need-enum-told
-enum-told c = search needs
+enum-told-2 : tie.Need-enum-told-2
+enum-told-2 c = search needs
 
 take-old-zero-requires : tie.Need-take-old-zero-requires
 take-old-zero-requires c κs = search needs
@@ -88,8 +94,15 @@ abbrev meant : (s : tie.Start) {x : Line} → s .args .form ≡ x → lineMeanin
 meant s e = ap (λ (x : Line). lineMeaning (now (s .args .line)) (Good x)) e
 
 returns : tie.Need-returns
-unfolding defaultOf defaultInRange
 returns c =
+    let p = c .before .before .before in
+    let k = p .before .before .before in
+    let x = expression-not-found _ _ _ _ (p .read-expression .ensures) (c .before .enum-told .given .1) in
+    λ n so h top. taken-none n so _ _ _ (meant (k .before .before .before) (k .form4 .given .1) ∙ with-none _ _ _ x) (c .refused .ensures)
+
+returns-2 : tie.Need-returns-2
+unfolding defaultOf defaultInRange
+returns-2 c =
     let d = c .before .before in
     let k = d .before .before in
     let z = default-kept (d .before) in
@@ -97,9 +110,9 @@ returns c =
     taken-form n so _ _ _ _ (meant (k .before .before .before) (k .form .given .1))
     (c .take-policy .ensures n so (some (k .form .given .0 .1 .0)) h z (d .default-in-range .ensures ∙ ap (λ (x : ℤ). defaultInRange (some x)) z))
 
-returns-2 : tie.Need-returns-2
+returns-3 : tie.Need-returns-3
 unfolding defaultOf defaultInRange
-returns-2 c =
+returns-3 c =
     let d = c .before .before in
     let k = d .before .before in
     let fits : SFits w32 (d .missing-default .result) = search needs in
@@ -107,27 +120,20 @@ returns-2 c =
     taken-form n so _ _ _ _ (meant (k .before .before .before) (k .form2 .given .1))
     (c .take-policy2 .ensures n so none h (toZ-ofZ w32 _ fits ∙ d .missing-default .ensures ∙ ap (λ (old : Bool). missingDefault old (k .form2 .given .0 .0)) (kept-old _ _ so h)) refl)
 
-returns-3 : tie.Need-returns-3
-returns-3 c =
+returns-4 : tie.Need-returns-4
+returns-4 c =
     let k = c .before .before .before in
     λ n so h top. taken-form n so _ _ _ _ (meant (k .before .before .before) (k .form3 .given .1)) (taken-rule-at n so _ _ _ _ _ (score-kept (c .before .before)) (c .take-rule .ensures n so h))
 
-returns-4 : tie.Need-returns-4
-returns-4 c =
-    let t = c .before .before .before in
-    let p = t .before in
-    let k = p .before .before .before in
-    let x = expression-found _ _ _ _ (p .read-expression .ensures) (t .if1 .taken) in
-    λ n so h top.
-    taken-form n so _ _ _ _ (meant (k .before .before .before) (k .form4 .given .1) ∙ with-expression _ _ _ _ (x .1))
-    (taken-condition-at n so _ _ _ _ _ _ (threshold-kept (p .before .before)) (c .take-condition .ensures n so (x .0) h (x .2)))
-
 returns-5 : tie.Need-returns-5
 returns-5 c =
-    let p = c .before .before in
+    let t = c .before .before .before .before in
+    let p = t .before .before in
     let k = p .before .before .before in
-    let x = expression-not-found _ _ _ _ (p .read-expression .ensures) (c .before .if1 .left) in
-    λ n so h top. taken-none n so _ _ _ (meant (k .before .before .before) (k .form4 .given .1) ∙ with-none _ _ _ x) (c .refused .ensures)
+    let x = expression-found _ _ _ _ (p .read-expression .ensures) (t .count .given .1) in
+    λ n so h top.
+    taken-form n so _ _ _ _ (meant (k .before .before .before) (k .form4 .given .1) ∙ with-expression _ _ _ _ (x .found))
+    (taken-condition-at n so _ _ _ _ _ _ (threshold-kept (p .before .before)) (c .take-condition .ensures n so (x .tree) h (x .kept)))
 
 returns-6 : tie.Need-returns-6
 returns-6 c =
@@ -137,7 +143,7 @@ returns-6 c =
 returns-7 : tie.Need-returns-7
 returns-7 c =
     let k = c .before in
-    λ n so h top. taken-form n so _ _ _ _ (meant (k .before .before .before) (k .enum-told .given .1)) (c .take-old-zero .ensures n so _ h top)
+    λ n so h top. taken-form n so _ _ _ _ (meant (k .before .before .before) (k .enum-told2 .given .1)) (c .take-old-zero .ensures n so _ h top)
 
 pub take-form-spec : {M : Type 1} → statement M
 take-form-spec =
@@ -153,13 +159,15 @@ take-form-spec =
     take-rule-requires
     enum-known-form-4
     read-expression-requires
-    take-condition-requires
+    enum-known-count
+    enum-told
     refused-requires
+    returns
+    take-condition-requires
     enum-known-form-5
     take-exclusion-requires
-    enum-told
+    enum-told-2
     take-old-zero-requires
-    returns
     returns-2
     returns-3
     returns-4

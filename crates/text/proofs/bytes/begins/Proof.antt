@@ -6,7 +6,7 @@ use borrow.Author.Needs.{needs}
 use denote.Ref.{now}
 use lib.ListN.{length, drop}
 use Rattle.text.specs.Text.{begins}
-use Rattle.text.proofs.TextLaws.{word-more, word-differs, word-cut, word-whole}
+use Rattle.text.proofs.WordLaws.{word-more, word-differs, word-cut, word-whole}
 use Rattle.text.proofs.bytes.begins.Statement.{statement}
 use Rattle.text.proofs.bytes.begins.Tie as tie
 

@@ -8,16 +8,16 @@ use denote.Ref.{now}
 use Rattle.text.specs.Text.{bytes}
 use Rattle.text.specs.Forms.{conditionLine, formOf}
 use Rattle.text.specs.Spelling.{numberMeaning, senseMeaning}
-use Rattle.text.proofs.TextLaws.{is-length}
-use Rattle.text.proofs.LineLaws.{number-length, sense-length}
+use Rattle.text.proofs.WordLaws.{is-length}
+use Rattle.text.proofs.FieldLaws.{number-length, sense-length}
 use Rattle.text.proofs.lines.four_fields.Statement.{statement}
 use Rattle.text.proofs.lines.four_fields.Tie as tie
 
-slice-aggregate-same : tie.Need-slice-aggregate-same
-slice-aggregate-same c = search needs
+slice-aggregate-is-word : tie.Need-slice-aggregate-is-word
+slice-aggregate-is-word c = search needs
 
-same-requires : tie.Need-same-requires
-same-requires c κs = search needs
+is-word-requires : tie.Need-is-word-requires
+is-word-requires c κs = search needs
 
 read-number-requires : tie.Need-read-number-requires
 read-number-requires c κs = search needs
@@ -33,7 +33,7 @@ unfolding formOf conditionLine
 returns c =
     let read = c .before .before in
     let k = read .before in
-    λ line h l. (rw (sym (k .before .same .ensures) ∙ k .if1 .taken, sym (read .read-number .ensures) ∙ ap numberMeaning (c .enum-told .given .1)), tt)
+    λ line h l. (rw (sym (k .before .is-word .ensures) ∙ k .if1 .taken, sym (read .read-number .ensures) ∙ ap numberMeaning (c .enum-told .given .1)), tt)
 
 read-sense-requires : tie.Need-read-sense-requires
 read-sense-requires c κs = search needs
@@ -52,7 +52,7 @@ returns-2 c =
     let read = found .before .before in
     let k = read .before in
     λ line h l. (
-      rw (sym (k .before .same .ensures) ∙ k .if1 .taken, sym (read .read-number .ensures) ∙ ap numberMeaning (found .threshold .given .1), sym (read-2 .read-sense .ensures) ∙ ap senseMeaning (c .enum-told2 .given .1)),
+      rw (sym (k .before .is-word .ensures) ∙ k .if1 .taken, sym (read .read-number .ensures) ∙ ap numberMeaning (found .threshold .given .1), sym (read-2 .read-sense .ensures) ∙ ap senseMeaning (c .enum-told2 .given .1)),
       tt,
     )
 
@@ -66,7 +66,7 @@ returns-3 c =
     let k = read .before in
     let args = k .before .before .before .before .before .before .args in
     let z : toZ w32 (ofZ w32 (found .threshold .given .0 .0)) ≡ found .threshold .given .0 .0 = search needs in
-    let kind = sym (k .before .same .ensures) ∙ k .if1 .taken in
+    let kind = sym (k .before .is-word .ensures) ∙ k .if1 .taken in
     let threshold = sym (read .read-number .ensures) ∙ ap numberMeaning (found .threshold .given .1) in
     let sense = sym (read-2 .read-sense .ensures) ∙ ap senseMeaning (found-2 .sense .given .1) in
     λ line h l. (
@@ -76,14 +76,14 @@ returns-3 c =
 
 returns-4 : tie.Need-returns-4
 unfolding formOf
-returns-4 c = λ line h l. (rw (sym (c .before .same .ensures) ∙ c .if1 .left), tt)
+returns-4 c = λ line h l. (rw (sym (c .before .is-word .ensures) ∙ c .if1 .left), tt)
 
 pub four-fields-spec : {M : Type 1} → statement M
 four-fields-spec =
     tie.close
     (tie.spec
-    slice-aggregate-same
-    same-requires
+    slice-aggregate-is-word
+    is-word-requires
     read-number-requires
     enum-known-threshold
     enum-told

@@ -8,11 +8,11 @@ use Rattle.text.specs.Spelling.{naturalMeaning, numberMeaning, operatorM
 use Rattle.text.proofs.lines.three_fields.Statement.{statement}
 use Rattle.text.proofs.lines.three_fields.Tie as tie
 
-slice-aggregate-same : tie.Need-slice-aggregate-same
-slice-aggregate-same c = search needs
+slice-aggregate-is-word : tie.Need-slice-aggregate-is-word
+slice-aggregate-is-word c = search needs
 
-same-requires : tie.Need-same-requires
-same-requires c κs = search needs
+is-word-requires : tie.Need-is-word-requires
+is-word-requires c κs = search needs
 
 read-operator-requires : tie.Need-read-operator-requires
 read-operator-requires c κs = search needs
@@ -28,7 +28,7 @@ unfolding formOf fullPolicy
 returns c =
     let read = c .before .before in
     let p = read .before in
-    λ line. (rw (sym (p .before .same .ensures) ∙ p .if1 .taken, sym (read .read-operator .ensures) ∙ ap operatorMeaning (c .enum-told .given .1)), tt)
+    λ line. (rw (sym (p .before .is-word .ensures) ∙ p .if1 .taken, sym (read .read-operator .ensures) ∙ ap operatorMeaning (c .enum-told .given .1)), tt)
 
 read-number-requires : tie.Need-read-number-requires
 read-number-requires c κs = search needs
@@ -47,7 +47,7 @@ returns-2 c =
     let read = found .before .before in
     let p = read .before in
     λ line. (
-      rw (sym (p .before .same .ensures) ∙ p .if1 .taken, sym (read .read-operator .ensures) ∙ ap operatorMeaning (found .operator .given .1), sym (read-2 .read-number .ensures) ∙ ap numberMeaning (c .enum-told2 .given .1)),
+      rw (sym (p .before .is-word .ensures) ∙ p .if1 .taken, sym (read .read-operator .ensures) ∙ ap operatorMeaning (found .operator .given .1), sym (read-2 .read-number .ensures) ∙ ap numberMeaning (c .enum-told2 .given .1)),
       tt,
     )
 
@@ -61,15 +61,15 @@ returns-3 c =
     let p = read .before in
     let z : toZ w32 (ofZ w32 (found-2 .default .given .0 .0)) ≡ found-2 .default .given .0 .0 = search needs in
     λ line. (
-      rw (z, sym (p .before .same .ensures) ∙ p .if1 .taken, sym (read .read-operator .ensures) ∙ ap operatorMeaning (found .operator .given .1), sym (read-2 .read-number .ensures) ∙ ap numberMeaning (found-2 .default .given .1)),
+      rw (z, sym (p .before .is-word .ensures) ∙ p .if1 .taken, sym (read .read-operator .ensures) ∙ ap operatorMeaning (found .operator .given .1), sym (read-2 .read-number .ensures) ∙ ap numberMeaning (found-2 .default .given .1)),
       tt,
     )
 
-slice-aggregate-same-2 : tie.Need-slice-aggregate-same-2
-slice-aggregate-same-2 c = search needs
+slice-aggregate-is-word-2 : tie.Need-slice-aggregate-is-word-2
+slice-aggregate-is-word-2 c = search needs
 
-same-requires-2 : tie.Need-same-requires-2
-same-requires-2 c κs = search needs
+is-word-requires-2 : tie.Need-is-word-requires-2
+is-word-requires-2 c κs = search needs
 
 read-natural-requires : tie.Need-read-natural-requires
 read-natural-requires c κs = search needs
@@ -87,7 +87,7 @@ returns-4 c =
     let r = read .before in
     let not-p = r .before .before .before in
     λ line. (
-      rw (sym (not-p .before .same .ensures) ∙ not-p .if1 .left, sym (r .before .same2 .ensures) ∙ r .if2 .taken, sym (read .read-natural .ensures) ∙ ap naturalMeaning (c .enum-told3 .given .1)),
+      rw (sym (not-p .before .is-word .ensures) ∙ not-p .if1 .left, sym (r .before .is-word2 .ensures) ∙ r .if2 .taken, sym (read .read-natural .ensures) ∙ ap naturalMeaning (c .enum-told3 .given .1)),
       tt,
     )
 
@@ -109,7 +109,7 @@ returns-5 c =
     let r = read .before in
     let not-p = r .before .before .before in
     λ line. (
-      rw (sym (not-p .before .same .ensures) ∙ not-p .if1 .left, sym (r .before .same2 .ensures) ∙ r .if2 .taken, sym (read .read-natural .ensures) ∙ ap naturalMeaning (found .signal .given .1), sym (read-2 .read-number2 .ensures) ∙ ap numberMeaning (c .enum-told4 .given .1)),
+      rw (sym (not-p .before .is-word .ensures) ∙ not-p .if1 .left, sym (r .before .is-word2 .ensures) ∙ r .if2 .taken, sym (read .read-natural .ensures) ∙ ap naturalMeaning (found .signal .given .1), sym (read-2 .read-number2 .ensures) ∙ ap numberMeaning (c .enum-told4 .given .1)),
       tt,
     )
 
@@ -124,15 +124,15 @@ returns-6 c =
     let not-p = r .before .before .before in
     let z : toZ w32 (ofZ w32 (found-2 .score .given .0 .0)) ≡ found-2 .score .given .0 .0 = search needs in
     λ line. (
-      rw (z, sym (not-p .before .same .ensures) ∙ not-p .if1 .left, sym (r .before .same2 .ensures) ∙ r .if2 .taken, sym (read .read-natural .ensures) ∙ ap naturalMeaning (found .signal .given .1), sym (read-2 .read-number2 .ensures) ∙ ap numberMeaning (found-2 .score .given .1)),
+      rw (z, sym (not-p .before .is-word .ensures) ∙ not-p .if1 .left, sym (r .before .is-word2 .ensures) ∙ r .if2 .taken, sym (read .read-natural .ensures) ∙ ap naturalMeaning (found .signal .given .1), sym (read-2 .read-number2 .ensures) ∙ ap numberMeaning (found-2 .score .given .1)),
       tt,
     )
 
-slice-aggregate-same-3 : tie.Need-slice-aggregate-same-3
-slice-aggregate-same-3 c = search needs
+slice-aggregate-is-word-3 : tie.Need-slice-aggregate-is-word-3
+slice-aggregate-is-word-3 c = search needs
 
-same-requires-3 : tie.Need-same-requires-3
-same-requires-3 c κs = search needs
+is-word-requires-3 : tie.Need-is-word-requires-3
+is-word-requires-3 c κs = search needs
 
 read-natural-requires-2 : tie.Need-read-natural-requires-2
 read-natural-requires-2 c κs = search needs
@@ -151,7 +151,7 @@ returns-7 c =
     let not-r = x .before .before .before in
     let not-p = not-r .before .before .before in
     λ line. (
-      rw (sym (not-p .before .same .ensures) ∙ not-p .if1 .left, sym (not-r .before .same2 .ensures) ∙ not-r .if2 .left, sym (x .before .same3 .ensures) ∙ x .if3 .taken, sym (read .read-natural2 .ensures) ∙ ap naturalMeaning (c .enum-told5 .given .1)),
+      rw (sym (not-p .before .is-word .ensures) ∙ not-p .if1 .left, sym (not-r .before .is-word2 .ensures) ∙ not-r .if2 .left, sym (x .before .is-word3 .ensures) ∙ x .if3 .taken, sym (read .read-natural2 .ensures) ∙ ap naturalMeaning (c .enum-told5 .given .1)),
       tt,
     )
 
@@ -174,7 +174,7 @@ returns-8 c =
     let not-r = x .before .before .before in
     let not-p = not-r .before .before .before in
     λ line. (
-      rw (sym (not-p .before .same .ensures) ∙ not-p .if1 .left, sym (not-r .before .same2 .ensures) ∙ not-r .if2 .left, sym (x .before .same3 .ensures) ∙ x .if3 .taken, sym (read .read-natural2 .ensures) ∙ ap naturalMeaning (found .first .given .1), sym (read-2 .read-natural3 .ensures) ∙ ap naturalMeaning (c .enum-told6 .given .1)),
+      rw (sym (not-p .before .is-word .ensures) ∙ not-p .if1 .left, sym (not-r .before .is-word2 .ensures) ∙ not-r .if2 .left, sym (x .before .is-word3 .ensures) ∙ x .if3 .taken, sym (read .read-natural2 .ensures) ∙ ap naturalMeaning (found .first .given .1), sym (read-2 .read-natural3 .ensures) ∙ ap naturalMeaning (c .enum-told6 .given .1)),
       tt,
     )
 
@@ -189,7 +189,7 @@ returns-9 c =
     let not-r = x .before .before .before in
     let not-p = not-r .before .before .before in
     λ line. (
-      rw (sym (not-p .before .same .ensures) ∙ not-p .if1 .left, sym (not-r .before .same2 .ensures) ∙ not-r .if2 .left, sym (x .before .same3 .ensures) ∙ x .if3 .taken, sym (read .read-natural2 .ensures) ∙ ap naturalMeaning (found .first .given .1), sym (read-2 .read-natural3 .ensures) ∙ ap naturalMeaning (found-2 .other .given .1)),
+      rw (sym (not-p .before .is-word .ensures) ∙ not-p .if1 .left, sym (not-r .before .is-word2 .ensures) ∙ not-r .if2 .left, sym (x .before .is-word3 .ensures) ∙ x .if3 .taken, sym (read .read-natural2 .ensures) ∙ ap naturalMeaning (found .first .given .1), sym (read-2 .read-natural3 .ensures) ∙ ap naturalMeaning (found-2 .other .given .1)),
       tt,
     )
 
@@ -198,14 +198,14 @@ unfolding formOf
 returns-10 c =
     let not-r = c .before .before .before in
     let not-p = not-r .before .before .before in
-    λ line. (rw (sym (not-p .before .same .ensures) ∙ not-p .if1 .left, sym (not-r .before .same2 .ensures) ∙ not-r .if2 .left, sym (c .before .same3 .ensures) ∙ c .if3 .left), tt)
+    λ line. (rw (sym (not-p .before .is-word .ensures) ∙ not-p .if1 .left, sym (not-r .before .is-word2 .ensures) ∙ not-r .if2 .left, sym (c .before .is-word3 .ensures) ∙ c .if3 .left), tt)
 
 pub three-fields-spec : {M : Type 1} → statement M
 three-fields-spec =
     tie.close
     (tie.spec
-    slice-aggregate-same
-    same-requires
+    slice-aggregate-is-word
+    is-word-requires
     read-operator-requires
     enum-known-operator
     enum-told
@@ -215,8 +215,8 @@ three-fields-spec =
     enum-told-2
     returns-2
     returns-3
-    slice-aggregate-same-2
-    same-requires-2
+    slice-aggregate-is-word-2
+    is-word-requires-2
     read-natural-requires
     enum-known-signal
     enum-told-3
@@ -226,8 +226,8 @@ three-fields-spec =
     enum-told-4
     returns-5
     returns-6
-    slice-aggregate-same-3
-    same-requires-3
+    slice-aggregate-is-word-3
+    is-word-requires-3
     read-natural-requires-2
     enum-known-first
     enum-told-5

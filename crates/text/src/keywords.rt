@@ -1,8 +1,8 @@
-// Fields that are words: operators and senses.
+// Fields that are keywords: operators and senses.
 ghost use mathlib.Core.Path.{_≡_};
 ghost use Rattle.text.specs.Forms.{operator, sense};
 ghost use Rattle.text.specs.Spelling.{operatorMeaning, senseMeaning};
-use super::bytes::same;
+use super::bytes::is_word;
 
 // A field as an operator.
 pub enum OperatorRead {
@@ -20,13 +20,13 @@ pub enum SenseRead {
 pub fn read_operator(field: &[u8]) -> OperatorRead
     ensures { λ r. ⌜ operatorMeaning r ≡ operator (now (field .entry)) ⌝ }
 {
-    if same(field, b"min") {
+    if is_word(field, b"min") {
         OperatorRead::Is(peal::Operator::Min)
-    } else if same(field, b"max") {
+    } else if is_word(field, b"max") {
         OperatorRead::Is(peal::Operator::Max)
-    } else if same(field, b"sum") {
+    } else if is_word(field, b"sum") {
         OperatorRead::Is(peal::Operator::Sum)
-    } else if same(field, b"mul") {
+    } else if is_word(field, b"mul") {
         OperatorRead::Is(peal::Operator::Mul)
     } else {
         OperatorRead::NotAnOperator
@@ -37,9 +37,9 @@ pub fn read_operator(field: &[u8]) -> OperatorRead
 pub fn read_sense(field: &[u8]) -> SenseRead
     ensures { λ r. ⌜ senseMeaning r ≡ sense (now (field .entry)) ⌝ }
 {
-    if same(field, b"<") {
+    if is_word(field, b"<") {
         SenseRead::Is(peal::Sense::Above)
-    } else if same(field, b">=") {
+    } else if is_word(field, b">=") {
         SenseRead::Is(peal::Sense::AtMost)
     } else {
         SenseRead::NotASense
