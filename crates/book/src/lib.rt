@@ -72,6 +72,9 @@ pub enum Checked {
     Refused(Refusal),
 }
 
+// The number that document 01 gives a missing condition, for the crates above.
+pub const NO_CONDITION: u64 = 7;
+
 // Why a condition that was asked for is not there.
 pub enum Declined {
     // The book was refused.

@@ -7,9 +7,9 @@
 // each vector every word of the space is marked by its index, and `compile` and `large` tell whether the words beyond the
 // listing, lent or not, still are (`kept`).
 use printing::print;
+use printing::print_declined;
 use printing::print_logger;
 use printing::print_number;
-use printing::print_refusal;
 use printing::print_rod;
 use vectors::after_word;
 use vectors::line_end;
@@ -112,8 +112,7 @@ fn print_compiled(answer: compiler::Compiled) {
             print(b"records ");
             print_number(records as u64);
         }
-        compiler::Compiled::Refused(refusal) => print_refusal(refusal),
-        compiler::Compiled::NoCondition => print(b"refused 7 0"),
+        compiler::Compiled::Declined(reason) => print_declined(reason),
         compiler::Compiled::NoRoom => print(b"refused 8 0"),
     }
 }
@@ -130,8 +129,7 @@ fn compiled_into(bytes: &[u8], condition: u32, words: &mut [u32]) -> Outcome
     let answer = compiler::compile(bytes, condition, words);
     let end = match answer {
         compiler::Compiled::Records(records) => records * 4,
-        compiler::Compiled::Refused(refusal) => 0,
-        compiler::Compiled::NoCondition => 0,
+        compiler::Compiled::Declined(reason) => 0,
         compiler::Compiled::NoRoom => 0,
     };
     Outcome {
@@ -189,8 +187,7 @@ fn score_number(d: score::Decision) -> usize {
     match d {
         score::Decision::Yes => 1,
         score::Decision::No => 0,
-        score::Decision::Refused(refusal) => 3,
-        score::Decision::NoCondition => 3,
+        score::Decision::Declined(reason) => 3,
     }
 }
 

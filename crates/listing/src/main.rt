@@ -2,6 +2,7 @@
 // declined, on standard output.
 use printing::print;
 use printing::print_choice;
+use printing::print_declined;
 use printing::print_number;
 use printing::print_refusal;
 ghost use Prim.Native.Nat.{_*_, _≤_};
@@ -49,11 +50,10 @@ fn list_condition(bytes: &[u8], condition: u32, words: &mut [u32]) {
     let answer = compiler::compile(bytes, condition, words);
     match answer {
         compiler::Compiled::Records(records) => print_listing(condition, records, words),
-        compiler::Compiled::Refused(refusal) => {
-            print_refusal(refusal);
+        compiler::Compiled::Declined(reason) => {
+            print_declined(reason);
             print_end();
         }
-        compiler::Compiled::NoCondition => print(b"refused 7 0\n"),
         compiler::Compiled::NoRoom => print(b"refused 8 0\n"),
     }
 }

@@ -17,9 +17,7 @@ enum-known-answer c = search needs
 room : (c : tie.After-answer) → c .answer .given .0 .0 * 4 ≤ length (now (c .before .before .before .before .before .before .before .before .args .words))
 room c =
     let r = c .before .before .before .before in
-    let start = r .before .before .before .before in
-    let made = returned-from (now (start .args .bytes)) (start .args .condition) (now (start .args .words)) (c .answer .given .0 .0) (r .compile .result) (r .compile .ensures .0) (c .answer .given .1) in
-    omega (arith, made .room)
+    omega (arith, returned-from (r .compile .ensures) (c .answer .given .1) .room)
 
 mul-end : tie.Need-mul-end
 mul-end c = omega (arith, room (c .before))
@@ -29,9 +27,6 @@ enum-known-answer-2 c = search needs
 
 enum-told : tie.Need-enum-told
 enum-told c = search needs
-
-enum-told-2 : tie.Need-enum-told-2
-enum-told-2 c = search needs
 
 same-length : tie.Need-same-length
 same-length c = search needs
@@ -51,12 +46,6 @@ same-length-3 c = search needs
 returns-3 : tie.Need-returns-3
 returns-3 c = search needs
 
-same-length-4 : tie.Need-same-length-4
-same-length-4 c = search needs
-
-returns-4 : tie.Need-returns-4
-returns-4 c = search needs
-
 pub compiled-into-spec : {M : Type 1} → statement M
 compiled-into-spec =
     tie.close
@@ -66,12 +55,9 @@ compiled-into-spec =
     mul-end
     enum-known-answer-2
     enum-told
-    enum-told-2
     same-length
     returns
     same-length-2
     returns-2
     same-length-3
-    returns-3
-    same-length-4
-    returns-4)
+    returns-3)

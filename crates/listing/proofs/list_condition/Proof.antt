@@ -1,6 +1,5 @@
 -- `listing::list_condition`: the records that compiling returns lie in the words.
 use native.Mathlib.Omega.{arith}
-use denote.Ref.{now}
 use Rattle.compiler.proofs.CompiledLaws.{returned-from}
 use borrow.Author.Needs.{needs}
 use Rattle.listing.proofs.list_condition.Statement.{statement}
@@ -16,15 +15,13 @@ print-listing-requires : tie.Need-print-listing-requires
 print-listing-requires c κs =
     let a = c .before .before in
     let r = a .before .before .before .before in
-    let start = r .before .before .before .before in
-    let made = returned-from (now (start .args .bytes)) (start .args .condition) (now (start .args .words)) (a .answer .given .0 .0) (r .compile .result) (r .compile .ensures .0) (a .answer .given .1) in
-    omega (arith, made .room)
+    omega (arith, returned-from (r .compile .ensures) (a .answer .given .1) .room)
 
 enum-known-answer-2 : tie.Need-enum-known-answer-2
 enum-known-answer-2 c = search needs
 
-print-refusal-requires : tie.Need-print-refusal-requires
-print-refusal-requires c κs = search needs
+print-declined-requires : tie.Need-print-declined-requires
+print-declined-requires c κs = search needs
 
 print-end-requires : tie.Need-print-end-requires
 print-end-requires c κs = search needs
@@ -37,15 +34,6 @@ slice-aggregate-print c = search needs
 
 print-requires : tie.Need-print-requires
 print-requires c κs = search needs
-
-enum-told-2 : tie.Need-enum-told-2
-enum-told-2 c = search needs
-
-slice-aggregate-print-2 : tie.Need-slice-aggregate-print-2
-slice-aggregate-print-2 c = search needs
-
-print-requires-2 : tie.Need-print-requires-2
-print-requires-2 c κs = search needs
 
 same-length : tie.Need-same-length
 same-length c = search needs
@@ -65,12 +53,6 @@ same-length-3 c = search needs
 returns-3 : tie.Need-returns-3
 returns-3 c = search needs
 
-same-length-4 : tie.Need-same-length-4
-same-length-4 c = search needs
-
-returns-4 : tie.Need-returns-4
-returns-4 c = search needs
-
 pub list-condition-spec : {M : Type 1} → statement M
 list-condition-spec =
     tie.close
@@ -79,19 +61,14 @@ list-condition-spec =
     enum-known-answer
     print-listing-requires
     enum-known-answer-2
-    print-refusal-requires
+    print-declined-requires
     print-end-requires
     enum-told
     slice-aggregate-print
     print-requires
-    enum-told-2
-    slice-aggregate-print-2
-    print-requires-2
     same-length
     returns
     same-length-2
     returns-2
     same-length-3
-    returns-3
-    same-length-4
-    returns-4)
+    returns-3)
