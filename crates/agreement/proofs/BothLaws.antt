@@ -18,9 +18,9 @@ use Rattle.book.specs.Books.{asked}
 use Rattle.score.specs.Decisions.{scoredAnswer}
 use Rattle.score.specs.Meaning.{scoreMeaning}
 use Rattle.score.specs.declared.Decision.{Decision as LoggerDecision}
-use Rattle.compiler.specs.Compiling.{fitting, compiled, returned, compiledListing}
+use Rattle.compiler.specs.Compiling.{fitting, compiled, returned, leftBy, compiledListing}
 use Rattle.agreement.specs.Demand3.{SaySame, MinimalListing}
-use Rattle.agreement.specs.Both.{Sayings, bothSay, leftBy}
+use Rattle.agreement.specs.Both.{Sayings, bothSay}
 use Rattle.agreement.proofs.Books.{scored-result}
 use Rattle.agreement.proofs.Demand3.{compiled-agreement, say-same, minimal-listing}
 

@@ -25,11 +25,11 @@ use Rattle.book.specs.Ranges.{PolicyInRange}
 use Rattle.book.proofs.AskedLaws.{asked-in-range}
 use Rattle.score.specs.Meaning.{scoreMeaning}
 use Rattle.score.specs.declared.Decision.{Decision as LoggerDecision}
-use Rattle.score.specs.declared.Decision.the-variants.{Yes as LoggerYes, No as LoggerNo, Refused, NoCondition}
-use Rattle.compiler.specs.Compiling.{fitting, compiled, returned, lentAfter, compiledListing}
+use Rattle.score.specs.declared.Decision.the-variants.{Yes as LoggerYes, No as LoggerNo, Declined as LoggerDeclined}
+use Rattle.compiler.specs.Compiling.{fitting, compiled, returned, leftBy, compiledListing}
 use Rattle.compiler.specs.Meaning.{compiledMeaning}
 use Rattle.compiler.specs.declared.Compiled.{Compiled}
-use Rattle.compiler.specs.declared.Compiled.the-variants.{Records, Refused as CompileRefused, NoCondition as NoSuchCondition, NoRoom}
+use Rattle.compiler.specs.declared.Compiled.the-variants.{Records, Declined as CompileDeclined, NoRoom}
 use Rattle.agreement.specs.CompiledReading.{compiledReading}
 use Rattle.agreement.specs.Demand3.{CompiledAgreement, ReadingAgreement, SaySame, bothYes, bothNo, StandsFor, MinimalListing, ListingFits, Demand3}
 use Rattle.agreement.proofs.Policies.{signals-fit}
@@ -63,12 +63,10 @@ reading-agreement bytes number set lent =
 pub say-same : (b : Bool) (rod : RodDecision) (logger : LoggerDecision) → rodMeaning rod ≡ result b → scoreMeaning logger ≡ result b → SaySame rod logger
 say-same b RodYes LoggerYes r l = bothYes
 say-same b RodYes LoggerNo r l = clash (sym (result-is r)) (sym (result-is l))
-say-same b RodYes (Refused x) r l = no-refusal (sym l)
-say-same b RodYes NoCondition r l = no-refusal (sym l)
+say-same b RodYes (LoggerDeclined d) r l = no-refusal (sym l)
 say-same b RodNo LoggerYes r l = clash (sym (result-is l)) (sym (result-is r))
 say-same b RodNo LoggerNo r l = bothNo
-say-same b RodNo (Refused x) r l = no-refusal (sym l)
-say-same b RodNo NoCondition r l = no-refusal (sym l)
+say-same b RodNo (LoggerDeclined d) r l = no-refusal (sym l)
 say-same b (Declined f) logger r l = no-refusal (sym r)
 
 -- ---- the lines
@@ -85,7 +83,7 @@ module _ (ps : List Policy) (ranges : Each PolicyInRange ps) (c : Condition) whe
   stand-for (join m a b) = one-by-one (stand-for a) (one-by-one (stand-for b) (Forall₂·cons refl Forall₂·nil))
 
 pub minimal-listing : (bytes : List ℕ) (number : ℕ) (lent : List ℕ) (n : ℕ) → returned (compiled bytes number (length lent)) ≡ result n
-    → MinimalListing bytes number (compiledListing n (lentAfter lent (compiled bytes number (length lent))))
+    → MinimalListing bytes number (compiledListing n (leftBy bytes number lent))
 unfolding listingRecords translated
 minimal-listing bytes number lent n e =
     let x = compiled-from bytes number lent n e in
@@ -115,8 +113,7 @@ compiles bytes number lent f =
 -- the answer that means so many records
 records-returned : (answer : Compiled) (n : ℕ) → compiledMeaning answer ≡ result n → answer ≡ Records n
 records-returned (Records m) n e = ap Records (result-is e)
-records-returned (CompileRefused r) n e = no-refusal (sym e)
-records-returned NoSuchCondition n e = no-refusal (sym e)
+records-returned (CompileDeclined d) n e = no-refusal (sym e)
 records-returned NoRoom n e = no-refusal (sym e)
 
 pub demand-3 : Demand3

@@ -7,20 +7,20 @@ use native.Mathlib.Omega.{arith}
 use lib.ListN.{length, take}
 use Rattle.answers.specs.Answers.{Answer, result, onResult}
 use Rattle.rod.specs.Reading.{rodAnswer}
-use Rattle.compiler.specs.Compiling.{compiled, returned, lentAfter, compiledListing}
+use Rattle.compiler.specs.Compiling.{compiled, returned, leftBy, compiledListing}
 use Rattle.agreement.specs.CompiledReading.{compiledReading}
 
 module _ (bytes : List ℕ) (number set : ℕ) (lent : List ℕ) where
   -- what the rod says of n records
   abbrev said : ℕ → Answer Bool
-  said n = rodAnswer (compiledListing n (lentAfter lent (compiled bytes number (length lent)))) set
+  said n = rodAnswer (compiledListing n (leftBy bytes number lent)) set
 
   pub reading-by : (a : Answer ℕ) → a ≡ returned (compiled bytes number (length lent)) → onResult a said ≡ compiledReading bytes number set lent
   unfolding compiledReading
   reading-by a e = ap (λ (a : Answer ℕ). onResult a said) e
 
   -- the code hands the rod the first n * 4 words
-  pub reading-first : (n : ℕ) (left : List ℕ) → result n ≡ returned (compiled bytes number (length lent)) → left ≡ lentAfter lent (compiled bytes number (length lent))
+  pub reading-first : (n : ℕ) (left : List ℕ) → result n ≡ returned (compiled bytes number (length lent)) → left ≡ leftBy bytes number lent
       → rodAnswer (take (n * 4) left) set ≡ compiledReading bytes number set lent
   unfolding compiledListing
   reading-first n left e f =

@@ -18,7 +18,7 @@ use Rattle.rod.proofs.Traverses.{answered}
 use Rattle.score.specs.Decisions.{scoredAnswer}
 use Rattle.score.specs.Meaning.{scoreMeaning}
 use Rattle.score.specs.declared.Decision.{Decision as LoggerDecision}
-use Rattle.score.specs.declared.Decision.the-variants.{Yes as LoggerYes, No as LoggerNo, Refused, NoCondition}
+use Rattle.score.specs.declared.Decision.the-variants.{Yes as LoggerYes, No as LoggerNo, Declined as LoggerDeclined}
 use Rattle.agreement.specs.Demand3.{WrittenFor, oneYes, zeroNo, AsLogger, TraverseSays}
 
 -- the bit of an answer is what is written for a logger that gives this answer
@@ -28,8 +28,7 @@ written-for true LoggerYes l = oneYes
 written-for false LoggerNo l = zeroNo
 written-for true LoggerNo l = clash refl (sym (result-is l))
 written-for false LoggerYes l = clash (sym (result-is l)) refl
-written-for b (Refused x) l = no-refusal (sym l)
-written-for b NoCondition l = no-refusal (sym l)
+written-for b (LoggerDeclined d) l = no-refusal (sym l)
 
 -- only `Answered n` means the result n
 all-answered : (returned : Traversed) (n : ℕ) → traverseMeaning returned ≡ result n → returned ≡ Answered n

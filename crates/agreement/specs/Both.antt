@@ -8,12 +8,12 @@ use Rattle.rod.specs.Meaning.{rodMeaning}
 use Rattle.peal.specs.Score.{decision}
 use Rattle.translation.specs.Translation.{listingRecords}
 use Rattle.book.specs.Books.{asked}
-use Rattle.book.specs.Meaning.{refusalMeaning}
+use Rattle.book.specs.Meaning.{declinedMeaning}
 use Rattle.score.specs.Meaning.{scoreMeaning}
-use Rattle.compiler.specs.Compiling.{fitting, compiled, lentAfter, compiledListing}
+use Rattle.compiler.specs.Compiling.{fitting, compiledListing}
 use Rattle.agreement.specs.Demand3.{SaySame, MinimalListing}
 use Rattle.agreement.specs.declared.Both.{Both}
-use Rattle.agreement.specs.declared.Both.the-variants.{Said, Refused, NoCondition, NoRoom}
+use Rattle.agreement.specs.declared.Both.the-variants.{Said, Declined, NoRoom}
 
 -- how many records were compiled, and what each answered
 pub record Sayings : Type 0 where
@@ -24,8 +24,7 @@ pub record Sayings : Type 0 where
 -- the answer of `agreement::ask_both`
 abbrev pub bothMeaning : Both → Answer Sayings
 bothMeaning (Said n rod logger) = result (record { records = n; rod = rodMeaning rod; logger = scoreMeaning logger })
-bothMeaning (Refused r) = refusalMeaning r
-bothMeaning NoCondition = refused 7 0
+bothMeaning (Declined d) = declinedMeaning d
 bothMeaning NoRoom = refused 8 0
 
 -- refusals 1 to 8; else neither refuses, and both say what the scores say
@@ -36,13 +35,8 @@ bothSay bytes number set lent =
     let said : Answer Bool = result (decision (b .policies) c set) in
     result (record { records = length rs; rod = said; logger = said })))
 
--- the lent words as compiling leaves them
-abbrev pub leftBy : List ℕ → ℕ → List ℕ → List ℕ
-leftBy bytes number lent = lentAfter lent (compiled bytes number (length lent))
-
 -- demand 3 of one set, of what was returned and left
 abbrev pub Held : List ℕ → ℕ → List ℕ → Both → Type 0
 Held bytes number left (Said n rod logger) = SaySame rod logger × MinimalListing bytes number (compiledListing n left)
-Held bytes number left (Refused r) = Unit {0}
-Held bytes number left NoCondition = Unit {0}
+Held bytes number left (Declined d) = Unit {0}
 Held bytes number left NoRoom = Unit {0}

@@ -5,10 +5,9 @@ use mathlib.Core.List.{List}
 use lib.ListN.{length}
 use Rattle.answers.specs.Answers.{Answer, onResult}
 use Rattle.rod.specs.Reading.{rodAnswer}
-use Rattle.compiler.specs.Compiling.{compiled, returned, lentAfter, compiledListing}
+use Rattle.compiler.specs.Compiling.{compiled, returned, leftBy, compiledListing}
 
 -- compiling's refusal, or what the rod says of the compiled listing
 unfoldable pub compiledReading : List ℕ → ℕ → ℕ → List ℕ → Answer Bool
 compiledReading bytes number set lent =
-    let c = compiled bytes number (length lent) in
-    onResult (returned c) (λ n. rodAnswer (compiledListing n (lentAfter lent c)) set)
+    onResult (returned (compiled bytes number (length lent))) (λ n. rodAnswer (compiledListing n (leftBy bytes number lent)) set)

@@ -25,8 +25,8 @@ use Rattle.score.specs.Decisions.{scoredAnswer}
 use Rattle.score.specs.Meaning.{scoreMeaning}
 use Rattle.score.specs.declared.Decision.{Decision as LoggerDecision}
 use Rattle.score.specs.declared.Decision.the-variants.{Yes as LoggerYes, No as LoggerNo}
-use Rattle.compiler.specs.Compiling.{compiled, returned, lentAfter, compiledListing}
-use Rattle.compiler.specs.Meaning.{compiledMeaning}
+use Rattle.compiler.specs.Compiling.{compiled, returned, leftBy, compiledListing}
+use Rattle.compiler.specs.Meaning.{CompilingRan}
 use Rattle.compiler.specs.declared.Compiled.{Compiled}
 use Rattle.compiler.specs.declared.Compiled.the-variants.{Records}
 use Rattle.agreement.specs.CompiledReading.{compiledReading}
@@ -41,12 +41,7 @@ pub record ListingFits (bytes : List ℕ) (number : ℕ) (lent : List ℕ) : Typ
   pub inBook : conditionAt (book .conditions) number ≡ result condition
   pub fits : length (words (listingRecords book condition)) ≤ length lent
 
--- ---- the calls, each by its promise about what it returned
-
--- an office compiles a condition of a book: `compiler::compile` returned this answer, and left these words
-pub record CompilingRan (bytes : List ℕ) (number : ℕ) (lent left : List ℕ) (answer : Compiled) : Type 0 where
-  pub returning : compiledMeaning answer ≡ returned (compiled bytes number (length lent))
-  pub leaving : left ≡ lentAfter lent (compiled bytes number (length lent))
+-- ---- the calls, each by its promise about what it returned: of compiling `CompilingRan`, of a traverse `TraverseRan`
 
 -- `rod::decide` is handed a listing and a signal set, and `score::decide` the book and the same set
 pub record BothRan (bytes : List ℕ) (number set : ℕ) (listing : List ℕ) (rod : RodDecision) (logger : LoggerDecision) : Type 0 where
@@ -131,7 +126,7 @@ abbrev pub CompiledAgreement : Type 0
 CompiledAgreement =
     (bytes : List ℕ) (number set n : ℕ) (lent : List ℕ) → returned (compiled bytes number (length lent)) ≡ result n
     → (yes : Bool)
-    × (rodAnswer (compiledListing n (lentAfter lent (compiled bytes number (length lent)))) set ≡ result yes)
+    × (rodAnswer (compiledListing n (leftBy bytes number lent)) set ≡ result yes)
     × (scoredAnswer bytes number set ≡ result yes)
 
 -- so `agreement::compile_and_read` gives compiling's refusal, or the logger's answer

@@ -2,13 +2,12 @@
 use mathlib.Core.Bool.{Bool}
 use Rattle.answers.specs.Answers.{Answer, refused}
 use Rattle.rod.specs.Meaning.{rodMeaning}
-use Rattle.book.specs.Meaning.{refusalMeaning}
+use Rattle.book.specs.Meaning.{declinedMeaning}
 use Rattle.agreement.specs.declared.Reading.{Reading}
-use Rattle.agreement.specs.declared.Reading.the-variants.{Decided, Refused, NoCondition, NoRoom}
+use Rattle.agreement.specs.declared.Reading.the-variants.{Decided, Declined, NoRoom}
 
 -- the answer of `agreement::compile_and_read`
 abbrev pub readingMeaning : Reading → Answer Bool
 readingMeaning (Decided d) = rodMeaning d
-readingMeaning (Refused r) = refusalMeaning r
-readingMeaning NoCondition = refused 7 0
+readingMeaning (Declined d) = declinedMeaning d
 readingMeaning NoRoom = refused 8 0

@@ -2,26 +2,23 @@
 // `compile_and_read` and `ask_both` are calls, and take every byte string, condition number, signal set and slice.
 ghost use mathlib.Core.Path.{_≡_};
 ghost use lib.ListN.{length};
-ghost use Rattle.compiler.specs.Compiling.{compiled, lentAfter};
+ghost use Rattle.compiler.specs.Compiling.{leftBy};
 ghost use Rattle.agreement.specs.CompiledReading.{compiledReading};
 ghost use Rattle.agreement.specs.Meaning.{readingMeaning};
-ghost use Rattle.agreement.specs.Both.{bothMeaning, bothSay, leftBy, Held};
+ghost use Rattle.agreement.specs.Both.{bothMeaning, bothSay, Held};
 
 // What the rod says of a condition just compiled.
 pub enum Reading {
     // The rod's answer on the compiled listing.
     Decided(rod::Decision),
-    // The book was refused.
-    Refused(book::Refusal),
-    // The book has no condition of that number.
-    NoCondition,
+    Declined(book::Declined),
     // The listing has more words than were lent.
     NoRoom,
 }
 
 pub fn compile_and_read(bytes: &[u8], condition: u32, set: u16, words: &mut [u32]) -> Reading
     ensures { λ r. ⌜ readingMeaning r ≡ compiledReading (now (bytes .entry)) condition set (now (words .entry)) ⌝ }
-    ensures { λ r. ⌜ now (words .exit) ≡ lentAfter (now (words .entry)) (compiled (now (bytes .entry)) condition (length (now (words .entry)))) ⌝ }
+    ensures { λ r. ⌜ now (words .exit) ≡ leftBy (now (bytes .entry)) condition (now (words .entry)) ⌝ }
 {
     let c = compiler::compile(bytes, condition, words);
     match c {
@@ -30,8 +27,7 @@ pub fn compile_and_read(bytes: &[u8], condition: u32, set: u16, words: &mut [u32
             let d = rod::decide(&words[..end], set);
             Reading::Decided(d)
         }
-        compiler::Compiled::Refused(refusal) => Reading::Refused(refusal),
-        compiler::Compiled::NoCondition => Reading::NoCondition,
+        compiler::Compiled::Declined(declined) => Reading::Declined(declined),
         compiler::Compiled::NoRoom => Reading::NoRoom,
     }
 }
@@ -44,10 +40,7 @@ pub enum Both {
         rod: rod::Decision,
         logger: score::Decision,
     },
-    // The book was refused.
-    Refused(book::Refusal),
-    // The book has no condition of that number.
-    NoCondition,
+    Declined(book::Declined),
     // The listing has more words than were lent.
     NoRoom,
 }
@@ -70,8 +63,7 @@ pub fn ask_both(bytes: &[u8], condition: u32, set: u16, words: &mut [u32]) -> Bo
                 logger: by_scores,
             }
         }
-        compiler::Compiled::Refused(refusal) => Both::Refused(refusal),
-        compiler::Compiled::NoCondition => Both::NoCondition,
+        compiler::Compiled::Declined(declined) => Both::Declined(declined),
         compiler::Compiled::NoRoom => Both::NoRoom,
     }
 }

@@ -72,12 +72,20 @@ pub enum Checked {
     Refused(Refusal),
 }
 
-// A condition that was asked for, for the crates above.
-pub enum Asked {
-    // The book is in the cells, and this is the condition's place there.
-    Condition(usize),
+// The number that document 01 gives a missing condition, for the crates above.
+pub const NO_CONDITION: u64 = 7;
+
+// Why a condition that was asked for is not there.
+pub enum Declined {
     // The book was refused.
     Refused(Refusal),
     // The book has no condition of that number.
     NoCondition,
+}
+
+// A condition that was asked for, for the crates above.
+pub enum Asked {
+    // The book is in the cells, and this is the condition's place there.
+    Condition(usize),
+    Declined(Declined),
 }

@@ -1,6 +1,7 @@
 // A whole book: its lines, read from the top.
 use crate::Asked;
 use crate::Checked;
+use crate::Declined;
 use crate::Reason;
 use crate::Refusal;
 use crate::acceptance::Verdict;
@@ -89,10 +90,10 @@ pub fn ask(bytes: &[u8], condition: u32, cells: &mut Cells) -> Asked
             if n < conditions {
                 Asked::Condition(n)
             } else {
-                Asked::NoCondition
+                Asked::Declined(Declined::NoCondition)
             }
         }
-        Checked::Refused(refusal) => Asked::Refused(refusal),
+        Checked::Refused(refusal) => Asked::Declined(Declined::Refused(refusal)),
     }
 }
 

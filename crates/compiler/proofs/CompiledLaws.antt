@@ -14,8 +14,8 @@ use Rattle.layout.proofs.WordLaws.{length-words}
 use Rattle.peal.specs.Policies.{Condition, Book}
 use Rattle.translation.specs.Translation.{listingRecords}
 use Rattle.book.specs.Books.{asked}
-use Rattle.compiler.specs.Compiling.{fitting, compiled, returned, lentAfter, compiledListing}
-use Rattle.compiler.specs.Meaning.{compiledMeaning}
+use Rattle.compiler.specs.Compiling.{fitting, compiled, returned, lentAfter, leftBy, compiledListing}
+use Rattle.compiler.specs.Meaning.{compiledMeaning, CompilingRan}
 use Rattle.compiler.specs.declared.Compiled.{Compiled}
 use Rattle.compiler.specs.declared.Compiled.the-variants.{Records}
 
@@ -25,7 +25,7 @@ pub record CompiledFrom (bytes : List ℕ) (number : ℕ) (lent : List ℕ) (n :
   pub condition : Condition
   pub ofBook : asked bytes number ≡ result (book, condition)
   pub room : 4 * n ≤ length lent
-  pub listing : compiledListing n (lentAfter lent (compiled bytes number (length lent))) ≡ words (listingRecords book condition)
+  pub listing : compiledListing n (leftBy bytes number lent) ≡ words (listingRecords book condition)
 
 -- the first words, as many as some records have
 listing-first : (rs : List Record) (n : ℕ) (lent : List ℕ) → length rs ≡ n → compiledListing n (lentAfter lent (result rs)) ≡ words rs
@@ -50,7 +50,7 @@ compiled-from bytes number lent n e =
           ∙ listing-first (listingRecords b c) n lent (ap length (result-is same) ∙ result-is k);
     }
 
--- the same, from the promise of `compile` about what it returned
-pub returned-from : (bytes : List ℕ) (number : ℕ) (lent : List ℕ) (n : ℕ) (r : Compiled) → compiledMeaning r ≡ returned (compiled bytes number (length lent)) → r ≡ Records n
-    → CompiledFrom bytes number lent n
-returned-from bytes number lent n r promised e = compiled-from bytes number lent n (sym promised ∙ ap compiledMeaning e)
+-- the same, from the promise of `compile` where it returned that number
+pub returned-from : {bytes : List ℕ} {number : ℕ} {lent left : List ℕ} {answer : Compiled} {n : ℕ}
+    → CompilingRan bytes number lent left answer → answer ≡ Records n → CompiledFrom bytes number lent n
+returned-from {bytes} {number} {lent} {n = n} ran e = compiled-from bytes number lent n (sym (ran .returning) ∙ ap compiledMeaning e)

@@ -10,10 +10,7 @@ use Rattle.answers.specs.Answers.{result, refused}
 use Rattle.arith.proofs.Order.{le-or-lt}
 use Rattle.layout.specs.Records.{Record, words}
 use Rattle.layout.proofs.WordLaws.{length-words}
-use Rattle.peal.specs.Policies.{Condition, Book}
-use Rattle.translation.specs.Translation.{listingRecords}
-use Rattle.book.specs.Books.{asked}
-use Rattle.compiler.specs.Compiling.{fitting, compiled, returned, lentAfter}
+use Rattle.compiler.specs.Compiling.{fitting, returned, lentAfter}
 use Rattle.compiler.specs.Putting.{putRecord, putRecords}
 
 -- ---- four words in front are passed over
@@ -86,14 +83,3 @@ module _ (rs : List Record) (lent : List ℕ) where
     pub no-room-lent : lent ≡ lentAfter lent (fitting (length lent) rs)
     unfolding lentAfter
     no-room-lent = sym (ap (lentAfter lent) does-not-fit)
-
--- a book's bytes and the number of a condition
-module _ (bytes : List ℕ) (number : ℕ) (lent : List ℕ) where
-  pub refused-answer : (k v : ℕ) → asked bytes number ≡ refused k v
-      → (refused k v ≡ returned (compiled bytes number (length lent))) × (lent ≡ lentAfter lent (compiled bytes number (length lent)))
-  unfolding compiled returned lentAfter
-  refused-answer k v e = (rw e, rw e)
-
-  pub asked-answer : (b : Book) (c : Condition) → asked bytes number ≡ result (b, c) → fitting (length lent) (listingRecords b c) ≡ compiled bytes number (length lent)
-  unfolding compiled
-  asked-answer b c e = rw e

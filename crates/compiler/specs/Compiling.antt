@@ -25,6 +25,10 @@ unfoldable pub lentAfter : List ℕ → Answer (List Record) → List ℕ
 lentAfter lent (result rs) = words rs ++ drop (length (words rs)) lent
 lentAfter lent (refused number place) = lent
 
+-- so compiling the condition of that number leaves the lent words
+abbrev pub leftBy : List ℕ → ℕ → List ℕ → List ℕ
+leftBy bytes number lent = lentAfter lent (compiled bytes number (length lent))
+
 -- the compiled listing: the first words as compiling left them, four for each record in the number it returned
 unfoldable pub compiledListing : ℕ → List ℕ → List ℕ
 compiledListing count lent = take (4 * count) lent

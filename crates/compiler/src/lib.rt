@@ -13,17 +13,14 @@ ghost use mathlib.Core.Path.{_≡_};
 ghost use lib.ListN.{length};
 ghost use Rattle.translation.specs.Translation.{listingRecords};
 ghost use Rattle.book.specs.Ranges.{ConditionKept};
-ghost use Rattle.compiler.specs.Compiling.{fitting, compiled, returned, lentAfter};
-ghost use Rattle.compiler.specs.Meaning.{compiledMeaning};
+ghost use Rattle.compiler.specs.Compiling.{fitting, returned, lentAfter};
+ghost use Rattle.compiler.specs.Meaning.{compiledMeaning, CompilingRan};
 
 // What compiling returns.
 pub enum Compiled {
     // The number of records; four words each stand first in the lent slice.
     Records(usize),
-    // The book was refused.
-    Refused(book::Refusal),
-    // The book has no condition of that number.
-    NoCondition,
+    Declined(book::Declined),
     // The listing has more words than were lent.
     NoRoom,
 }
@@ -46,14 +43,12 @@ fn compile_condition(cells: &book::Cells, n: usize, words: &mut [u32]) -> Compil
 }
 
 pub fn compile(bytes: &[u8], condition: u32, words: &mut [u32]) -> Compiled
-    ensures { λ r. ⌜ compiledMeaning r ≡ returned (compiled (now (bytes .entry)) condition (length (now (words .entry)))) ⌝ }
-    ensures { λ r. ⌜ now (words .exit) ≡ lentAfter (now (words .entry)) (compiled (now (bytes .entry)) condition (length (now (words .entry)))) ⌝ }
+    ensures { λ r. ⌜ CompilingRan (now (bytes .entry)) condition (now (words .entry)) (now (words .exit)) r ⌝ }
 {
     let mut cells = [0i32; book::CELL_COUNT];
     let asked = book::ask(bytes, condition, &mut cells);
     match asked {
         book::Asked::Condition(n) => compile_condition(&cells, n, words),
-        book::Asked::Refused(refusal) => Compiled::Refused(refusal),
-        book::Asked::NoCondition => Compiled::NoCondition,
+        book::Asked::Declined(declined) => Compiled::Declined(declined),
     }
 }

@@ -28,7 +28,7 @@ judging most n so (r ∷ rs) h =
     (λ _. judging most (n + 1) (soFarAfter so (kindOf (r .kind)) r) rs (omega arith))
 
 module _ (ws : List ℕ) where
-  pub verdicts : Refuses 9 10 (length ws / 4) (verdict ws)
+  verdicts : Refuses 9 10 (length ws / 4) (verdict ws)
   unfolding verdict
   verdicts = tried (lengthSound ws) (omega arith) (λ _. judging (length ws / 4) 0 noRecord (records ws) (omega (arith, records-few ws)))
 

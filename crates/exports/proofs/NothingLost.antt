@@ -18,7 +18,7 @@ use Rattle.score.specs.Decisions.{scoredAnswer}
 use Rattle.score.specs.Shown.{shownAnswer}
 use Rattle.score.specs.declared.exact.Exact.{Exact}
 use Rattle.compiler.specs.Compiling.{compiled, returned}
-use Rattle.exports.specs.Packing.{asOne, ofSecond, packed, countsValue, scoreValue, remainderAfter, itself, answersValue, choiceValue, chosenValue, packedComparison}
+use Rattle.exports.specs.Packing.{fromBit5, fromBit16, fromBit32, fromBit48, valueEnd, belowZero, asOne, ofSecond, packed, countsValue, scoreValue, remainderAfter, itself, answersValue, choiceValue, chosenValue, packedComparison}
 use Rattle.exports.specs.Unpacking.{codeIn, valueIn, ofFirst, numberOf, unpacked, countsIn, yesIn, scoreIn, choiceIn, chosenIn, whichOf, differenceIn, comparisonIn}
 use Rattle.exports.specs.NothingLost.{NothingLost}
 use Rattle.exports.proofs.Refusals.{Refuses, in-table}
@@ -28,7 +28,7 @@ use Rattle.exports.proofs.Results.{counts-small, hundredths-natural, an
 
 -- ---- the parts of a number
 
-module _ (code v : ℕ) (h : code < 32) where
+module _ (code v : ℕ) (h : code < fromBit5) where
   code-in : codeIn (asOne code v) ≡ code
   unfolding codeIn
   code-in = omega arith
@@ -54,12 +54,12 @@ first-code code h = let t = le-leb code 20 h in (t, rw t refl)
 
 second-code : (number : ℕ) → 4 < number → (ofFirst (ofSecond number) ≡ false) × (numberOf (ofSecond number) ≡ number)
 unfolding numberOf ofFirst
-second-code number h = let t = lt-leb (number + 16) 20 (omega arith) in (t, rw t (omega arith))
+second-code number h = let t = lt-leb (ofSecond number) 20 (omega arith) in (t, rw t (omega arith))
 
 -- ---- an answer
 
 module _ {A : Type 0} (valueOf : A → ℕ) (resultIn : ℕ → A) {from to most : ℕ} (low : 0 < from) (high : to ≤ 20) where
-  pub told-again : (a : Answer A) → Refuses from to most a → ((x : A) → result x ≡ a → resultIn (valueOf x) ≡ x)
+  told-again : (a : Answer A) → Refuses from to most a → ((x : A) → result x ≡ a → resultIn (valueOf x) ≡ x)
       → unpacked resultIn (packed valueOf a) ≡ a
   unfolding packed
   told-again (result x) h g = answer-in 0 (valueOf x) (omega arith) resultIn ∙ ap result (g x refl)
@@ -70,8 +70,8 @@ module _ {A : Type 0} (valueOf : A → ℕ) (resultIn : ℕ → A) {from to most
 counts-again : (n : Counts) → n .policies ≤ 16 → countsIn (countsValue n) ≡ n
 unfolding countsIn countsValue
 counts-again n h =
-    let p : (n .policies + 2048 * n .conditions) % 2048 ≡ n .policies = omega arith in
-    let c : (n .policies + 2048 * n .conditions) / 2048 ≡ n .conditions = omega arith in
+    let p : (n .policies + fromBit16 * n .conditions) % fromBit16 ≡ n .policies = omega arith in
+    let c : (n .policies + fromBit16 * n .conditions) / fromBit16 ≡ n .conditions = omega arith in
     rw (p, c) refl
 
 yes-again : (b : Bool) → yesIn (bit b) ≡ b
@@ -85,12 +85,12 @@ score-again : (bytes : List ℕ) (number set lent : ℕ) (x : Exact) → result 
 unfolding scoreIn scoreValue remainderAfter
 score-again bytes number set lent x e =
     let (n, counted, few) = hundredths-natural bytes number set x (sym e) in
-    let back : pos (natAbs (x .hundredths +ℤ pos 10000)) -ℤ pos 10000 ≡ x .hundredths =
-    ap (λ (z : ℤ). pos (natAbs z) -ℤ pos 10000) counted ∙ ap (λ (z : ℤ). z -ℤ pos 10000) (sym counted) ∙ +ℤ-negℤ-cancel (x .hundredths) (pos 10000) in
+    let back : pos (natAbs (x .hundredths +ℤ belowZero)) -ℤ belowZero ≡ x .hundredths =
+    ap (λ (z : ℤ). pos (natAbs z) -ℤ belowZero) counted ∙ ap (λ (z : ℤ). z -ℤ belowZero) (sym counted) ∙ +ℤ-negℤ-cancel (x .hundredths) (belowZero) in
     subst (λ (a : Answer Exact). scoreIn (remainderAfter lent a) (scoreValue x) ≡ x) e (rw back refl)
 
 -- as many answers as sets, fewer than 2 to the 59
-answers-again : (words sets lent : List ℕ) → length sets < 2 ^ 59 → (n : ℕ) → result n ≡ answerCount (traversed words sets lent)
+answers-again : (words sets lent : List ℕ) → length sets < valueEnd → (n : ℕ) → result n ≡ answerCount (traversed words sets lent)
     → itself (answersValue n) ≡ n
 unfolding answersValue
 answers-again words sets lent few n e = omega (arith, answers-counted words sets lent n e)
@@ -100,13 +100,13 @@ unfolding choiceIn choiceValue
 choice-again always h = refl
 choice-again never h = refl
 choice-again (both y n) h =
-    let v : ℕ = 2 + 2048 * y + 134217728 * n in
-    let yes-set : v / 2048 % 65536 ≡ y = omega (arith, h .0) in
-    let no-set : v / 134217728 ≡ n = omega (arith, h .0) in
+    let v : ℕ = 2 + fromBit16 * y + fromBit32 * n in
+    let yes-set : v % fromBit32 / fromBit16 ≡ y = omega (arith, h .0) in
+    let no-set : v / fromBit32 ≡ n = omega (arith, h .0) in
     rw (ne-eqb v 0 (omega arith), ne-eqb v 1 (omega arith), yes-set, no-set) refl
 
 -- the value of the choice ends below bit 48
-choice-ends : (c : Choice) → NamesSets c → choiceValue c < 8796093022208
+choice-ends : (c : Choice) → NamesSets c → choiceValue c < fromBit48
 unfolding choiceValue
 choice-ends always h = omega arith
 choice-ends never h = omega arith
@@ -116,25 +116,25 @@ chosen-again : (c : Chosen) → ChosenFits c → chosenIn (chosenValue c) ≡ c
 unfolding chosenIn chosenValue
 chosen-again c h =
     let less = choice-ends (c .choice) (h .sets) in
-    let low : (choiceValue (c .choice) + 8796093022208 * (c .judged - 1)) % 8796093022208 ≡ choiceValue (c .choice) = omega (arith, less) in
-    let high : (choiceValue (c .choice) + 8796093022208 * (c .judged - 1)) / 8796093022208 + 1 ≡ c .judged = omega (arith, less, h .some) in
+    let low : (choiceValue (c .choice) + fromBit48 * (c .judged - 1)) % fromBit48 ≡ choiceValue (c .choice) = omega (arith, less) in
+    let high : (choiceValue (c .choice) + fromBit48 * (c .judged - 1)) / fromBit48 + 1 ≡ c .judged = omega (arith, less, h .some) in
     rw (low, high, choice-again (c .choice) (h .sets)) refl
 
 -- ---- the comparison
 
-difference-in : (k set : ℕ) → 0 < k → k < 2048 → differenceIn (k + 2048 * set) ≡ differ set (whichOf (eqb k 3))
+difference-in : (k set : ℕ) → 0 < k → k < fromBit16 → differenceIn (k + fromBit16 * set) ≡ differ set (whichOf (eqb k 3))
 unfolding differenceIn
 difference-in k set low high =
-    let which : (k + 2048 * set) % 2048 ≡ k = omega arith in
-    let lowest : (k + 2048 * set) / 2048 ≡ set = omega arith in
-    rw (ne-eqb (k + 2048 * set) 0 (omega arith), which, lowest) refl
+    let which : (k + fromBit16 * set) % fromBit16 ≡ k = omega arith in
+    let lowest : (k + fromBit16 * set) / fromBit16 ≡ set = omega arith in
+    rw (ne-eqb (k + fromBit16 * set) 0 (omega arith), which, lowest) refl
 
 module _ (one two : ℕ) where
   compared-again : (c : Comparison) → Declines one two c → comparisonIn (packedComparison c) ≡ c
   unfolding packedComparison differenceIn whichOf
   compared-again alike h = comparison-in 0 0 (omega arith)
-  compared-again (differ set first) h = comparison-in 0 (3 + 2048 * set) (omega arith) ∙ difference-in 3 set (omega arith) (omega arith)
-  compared-again (differ set second) h = comparison-in 0 (1 + 2048 * set) (omega arith) ∙ difference-in 1 set (omega arith) (omega arith)
+  compared-again (differ set first) h = comparison-in 0 (3 + fromBit16 * set) (omega arith) ∙ difference-in 3 set (omega arith) (omega arith)
+  compared-again (differ set second) h = comparison-in 0 (1 + fromBit16 * set) (omega arith) ∙ difference-in 1 set (omega arith) (omega arith)
   compared-again (declined first n v) h =
       let (which, number) = first-code n (omega arith) in
       comparison-in n v (omega arith) ∙ rw (ne-eqb n 0 (omega arith), which, number) refl

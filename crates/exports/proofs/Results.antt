@@ -26,6 +26,7 @@ use Rattle.book.proofs.RangeLaws.{read-in-range}
 use Rattle.score.specs.Shown.{shownAnswer}
 use Rattle.score.specs.declared.exact.Exact.{Exact}
 use Rattle.score.proofs.ShownTells.{shown-tells}
+use Rattle.exports.specs.Packing.{belowZero}
 
 pub counts-small : (bytes : List ℕ) (n : Counts) → result n ≡ checked bytes → (n .policies ≤ 16) × (n .conditions ≤ 8)
 unfolding checked
@@ -37,11 +38,11 @@ counts-small bytes n h =
 -- ---- hundredths, counted from the lowest
 
 pub hundredths-natural : (bytes : List ℕ) (number set : ℕ) (x : Exact) → shownAnswer bytes number set ≡ result x
-    → (n : ℕ) × (x .hundredths +ℤ pos 10000 ≡ pos n) × (n ≤ 170000)
+    → (n : ℕ) × (x .hundredths +ℤ belowZero ≡ pos n) × (n ≤ 170000)
 unfolding within
 hundredths-natural bytes number set x h = go (x .hundredths) (shown-tells .range bytes number set x h)
   where
-    go : (z : ℤ) → (leZ (negsuc 9999) z && leZ z (pos 160000)) ≡ true → (n : ℕ) × (z +ℤ pos 10000 ≡ pos n) × (n ≤ 170000)
+    go : (z : ℤ) → (leZ (negsuc 9999) z && leZ z (pos 160000)) ≡ true → (n : ℕ) × (z +ℤ belowZero ≡ pos n) × (n ≤ 170000)
     go (pos z) e = (z + 10000, refl, omega (arith, leb-true z 160000 (and-right true (leb z 160000) e)))
     go (negsuc z) e =
         let l = leb-true z 9999 (and-left (leb z 9999) true e) in

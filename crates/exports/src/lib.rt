@@ -3,54 +3,67 @@
 // lent number, and only a traverse the lent answers.
 ghost use mathlib.Core.Path.{_≡_};
 ghost use Prim.Native.Nat.{_+_, _-_, _*_, _^_, _≤_, _<_};
-ghost use lib.ListN.{length};
 ghost use Rattle.layout.specs.Records.{bit};
 ghost use Rattle.layout.specs.Meaning.{faultNumber, faultValue};
 ghost use Rattle.rod.specs.Reading.{rodAnswer};
-ghost use Rattle.rod.specs.Traversing.{traversed, answerCount, answersAfter};
 ghost use Rattle.checks.specs.Checks.{chosen, comparison};
 ghost use Rattle.book.specs.Books.{checked};
-ghost use Rattle.book.specs.Meaning.{reasonNumber};
+ghost use Rattle.book.specs.Meaning.{reasonNumber, declinedNumber, declinedValue};
 ghost use Rattle.score.specs.Decisions.{scoredAnswer};
-ghost use Rattle.compiler.specs.Compiling.{compiled, returned, lentAfter};
-ghost use Rattle.exports.specs.Packing.{asOne, packed, countsValue, ScoreTold, itself, answersValue, chosenValue, packedComparison};
+ghost use Rattle.exports.specs.Packing.{fromBit5, fromBit48, valueEnd, asOne, packed, countsValue, chosenValue, packedComparison};
+ghost use Rattle.exports.specs.Packing.{ScoreTold, CompilingTold, TraverseTold};
+
+// The weight of a value in the number: it begins at bit 5, after the code.
+const FROM_BIT_5: u64 = 1 << 5;
 
 // In a value: the weight of what stands from bit 16 of the number on.
-const FROM_BIT_16: u64 = 2048;
+const FROM_BIT_16: u64 = (1 << 16) / FROM_BIT_5;
 
 // The same from bit 32 on.
-const FROM_BIT_32: u64 = 134217728;
+const FROM_BIT_32: u64 = (1 << 32) / FROM_BIT_5;
 
 // And from bit 48 on.
-const FROM_BIT_48: u64 = 8796093022208;
+const FROM_BIT_48: u64 = (1 << 48) / FROM_BIT_5;
 
-// Beyond every value: 2 to the 59.
-const VALUE_END: u64 = 576460752303423488;
+// Beyond every value: 64 bits, less those of the code.
+const VALUE_END: u64 = 1 << 59;
 
 // So far below zero is the lowest score, in hundredths; the value of a score counts from there.
 const BELOW_ZERO: i64 = 10000;
+
+// The number of the refusal of a listing that has more words than were lent.
+const NO_ROOM: u64 = 8;
+
+// That of a listing whose length is not sound.
+const BAD_LENGTH: u64 = 9;
+
+// That of a record which breaks the layout.
+const BAD_RECORD: u64 = 10;
+
+// That of a traverse with more or fewer answers lent than sets.
+const UNEQUAL: u64 = 11;
 
 // By so much the code of a refusal is higher where it is the second listing's.
 const OF_SECOND: u64 = 16;
 
 // A result by its value, which has all its bits from bit 5 on if it is below 2 to the 59.
 fn accepted(value: u64) -> u64
-    requires { ⌜ value < 2 ^ 59 ⌝ }
+    requires { ⌜ value < valueEnd ⌝ }
     ensures { λ r. ⌜ r ≡ asOne 0 value ⌝ }
 {
-    32 * value
+    FROM_BIT_5 * value
 }
 
 // A refusal by its number, and the line or record beside it.
 fn refused(number: u64, value: u64) -> u64
-    requires { ⌜ (number < 32) × (value < 2 ^ 59) ⌝ }
+    requires { ⌜ (number < fromBit5) × (value < valueEnd) ⌝ }
     ensures { λ r. ⌜ r ≡ asOne number value ⌝ }
 {
-    number + 32 * value
+    number + FROM_BIT_5 * value
 }
 
 fn refused_book(refusal: book::Refusal) -> u64
-    requires { ⌜ refusal .line < 2 ^ 59 ⌝ }
+    requires { ⌜ refusal .line < valueEnd ⌝ }
     ensures { λ r. ⌜ r ≡ asOne (reasonNumber (refusal .reason)) (refusal .line) ⌝ }
 {
     let reason = refusal.reason;
@@ -58,15 +71,25 @@ fn refused_book(refusal: book::Refusal) -> u64
     refused(book::reason_number(reason), line)
 }
 
+fn declined(reason: book::Declined) -> u64
+    requires { ⌜ declinedValue reason < valueEnd ⌝ }
+    ensures { λ r. ⌜ r ≡ asOne (declinedNumber reason) (declinedValue reason) ⌝ }
+{
+    match reason {
+        book::Declined::Refused(refusal) => refused_book(refusal),
+        book::Declined::NoCondition => refused(book::NO_CONDITION, 0),
+    }
+}
+
 fn refused_listing(fault: layout::Fault) -> u64
-    requires { ⌜ faultValue fault < 2 ^ 59 ⌝ }
+    requires { ⌜ faultValue fault < valueEnd ⌝ }
     ensures { λ r. ⌜ r ≡ asOne (faultNumber fault) (faultValue fault) ⌝ }
 {
     match fault {
-        layout::Fault::Length => refused(9, 0),
+        layout::Fault::Length => refused(BAD_LENGTH, 0),
         layout::Fault::Record(n) => {
             let record = n as u64;
-            refused(10, record)
+            refused(BAD_RECORD, record)
         }
     }
 }
@@ -96,8 +119,7 @@ pub extern "C" fn cerahupo_decide(bytes: &[u8], condition: u32, set: u16) -> u64
     match d {
         score::Decision::Yes => accepted(1),
         score::Decision::No => accepted(0),
-        score::Decision::Refused(refusal) => refused_book(refusal),
-        score::Decision::NoCondition => refused(7, 0),
+        score::Decision::Declined(reason) => declined(reason),
     }
 }
 
@@ -112,15 +134,13 @@ pub extern "C" fn cerahupo_score(bytes: &[u8], condition: u32, set: u16, remaind
             *remainder = exact.remainder;
             accepted(value)
         }
-        score::Evaluation::Refused(refusal) => refused_book(refusal),
-        score::Evaluation::NoCondition => refused(7, 0),
+        score::Evaluation::Declined(reason) => declined(reason),
     }
 }
 
 #[no_mangle]
 pub extern "C" fn cerahupo_compile(bytes: &[u8], condition: u32, words: &mut [u32]) -> u64
-    ensures { λ r. ⌜ r ≡ packed itself (returned (compiled (now (bytes .entry)) condition (length (now (words .entry))))) ⌝ }
-    ensures { λ r. ⌜ now (words .exit) ≡ lentAfter (now (words .entry)) (compiled (now (bytes .entry)) condition (length (now (words .entry)))) ⌝ }
+    ensures { λ r. ⌜ CompilingTold (now (bytes .entry)) condition (now (words .entry)) r (now (words .exit)) ⌝ }
 {
     let c = compiler::compile(bytes, condition, words);
     match c {
@@ -128,9 +148,8 @@ pub extern "C" fn cerahupo_compile(bytes: &[u8], condition: u32, words: &mut [u3
             let records = n as u64;
             accepted(records)
         }
-        compiler::Compiled::Refused(refusal) => refused_book(refusal),
-        compiler::Compiled::NoCondition => refused(7, 0),
-        compiler::Compiled::NoRoom => refused(8, 0),
+        compiler::Compiled::Declined(reason) => declined(reason),
+        compiler::Compiled::NoRoom => refused(NO_ROOM, 0),
     }
 }
 
@@ -148,10 +167,8 @@ pub extern "C" fn cerahupo_read(words: &[u32], set: u16) -> u64
 
 #[no_mangle]
 pub extern "C" fn cerahupo_traverse(words: &[u32], sets: &[u16], answers: &mut [u8]) -> u64
-    ensures { λ r. ⌜ r ≡ packed answersValue (answerCount
-        (traversed (now (words .entry)) (now (sets .entry)) (now (answers .entry)))) ⌝ }
-    ensures { λ r. ⌜ now (answers .exit) ≡ answersAfter (now (answers .entry))
-        (traversed (now (words .entry)) (now (sets .entry)) (now (answers .entry))) ⌝ }
+    ensures { λ r. ⌜ TraverseTold (now (words .entry)) (now (sets .entry)) (now (answers .entry))
+        r (now (answers .exit)) ⌝ }
 {
     let t = rod::traverse(words, sets, answers);
     match t {
@@ -159,15 +176,15 @@ pub extern "C" fn cerahupo_traverse(words: &[u32], sets: &[u16], answers: &mut [
             let value = n as u64 % VALUE_END;
             accepted(value)
         }
-        rod::Traversed::Unequal => refused(11, 0),
+        rod::Traversed::Unequal => refused(UNEQUAL, 0),
         rod::Traversed::Declined(fault) => refused_listing(fault),
     }
 }
 
 // A choice by its value below bit 48, and how many sets were judged.
 fn accepted_choice(value: u64, judged: u32) -> u64
-    requires { ⌜ (value < 2 ^ 43) × (0 < judged) × (judged ≤ 65536) ⌝ }
-    ensures { λ r. ⌜ r ≡ asOne 0 (value + 8796093022208 * (judged - 1)) ⌝ }
+    requires { ⌜ (value < fromBit48) × (0 < judged) × (judged ≤ 2 ^ 16) ⌝ }
+    ensures { λ r. ⌜ r ≡ asOne 0 (value + fromBit48 * (judged - 1)) ⌝ }
 {
     accepted(value + FROM_BIT_48 * (judged - 1) as u64)
 }

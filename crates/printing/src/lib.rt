@@ -61,6 +61,13 @@ pub fn print_refusal(refusal: book::Refusal) {
     print_refused(book::reason_number(reason), refusal.line as u64);
 }
 
+pub fn print_declined(reason: book::Declined) {
+    match reason {
+        book::Declined::Refused(refusal) => print_refusal(refusal),
+        book::Declined::NoCondition => print_refused(book::NO_CONDITION, 0),
+    }
+}
+
 pub fn print_fault(fault: layout::Fault) {
     match fault {
         layout::Fault::Length => print_refused(9, 0),
@@ -169,8 +176,7 @@ pub fn print_compiled(c: compiler::Compiled) {
             print(b"records ");
             print_number(records as u64);
         }
-        compiler::Compiled::Refused(refusal) => print_refusal(refusal),
-        compiler::Compiled::NoCondition => print_refused(7, 0),
+        compiler::Compiled::Declined(reason) => print_declined(reason),
         compiler::Compiled::NoRoom => print_refused(8, 0),
     }
 }
@@ -179,8 +185,7 @@ pub fn print_logger(d: score::Decision) {
     match d {
         score::Decision::Yes => print(b"yes"),
         score::Decision::No => print(b"no"),
-        score::Decision::Refused(refusal) => print_refusal(refusal),
-        score::Decision::NoCondition => print_refused(7, 0),
+        score::Decision::Declined(reason) => print_declined(reason),
     }
 }
 
@@ -194,7 +199,6 @@ fn print_exact(x: score::Exact) {
 pub fn print_score(e: score::Evaluation) {
     match e {
         score::Evaluation::Score(x) => print_exact(x),
-        score::Evaluation::Refused(refusal) => print_refusal(refusal),
-        score::Evaluation::NoCondition => print_refused(7, 0),
+        score::Evaluation::Declined(reason) => print_declined(reason),
     }
 }

@@ -21,9 +21,10 @@ use Rattle.peal.specs.MasksDecide.{SignalsFit}
 use Rattle.peal.proofs.OrderLaws.{Once}
 use Rattle.text.specs.Text.{bytes}
 use Rattle.book.proofs.AskedLaws.{asked-in-range}
-use Rattle.compiler.specs.Compiling.{compiled, returned, lentAfter, compiledListing}
+use Rattle.compiler.specs.Compiling.{compiled, returned, leftBy, compiledListing}
+use Rattle.compiler.specs.Meaning.{CompilingRan}
 use Rattle.compiler.specs.declared.Compiled.the-variants.{Records}
-use Rattle.agreement.specs.Demand3.{CompilingRan, MinimalMasks, StandsFor, MinimalListing}
+use Rattle.agreement.specs.Demand3.{MinimalMasks, StandsFor, MinimalListing}
 use Rattle.agreement.proofs.Conditions.{policy-in-range}
 use Rattle.agreement.proofs.Demand3.{compiled-agreement, minimal-listing}
 use Rattle.agreement.proofs.LineMasks.{minimal-mask-inside}
@@ -61,7 +62,7 @@ module _ (listing : List ℕ) (p : ListedPolicy) (h : OnePolicy listing p) where
   ran : returned (compiled (h .bytes) (h .number) (length (h .lent))) ≡ result (h .count)
   ran = sym (h .compiling .returning)
 
-  left-there : listing ≡ compiledListing (h .count) (lentAfter (h .lent) (compiled (h .bytes) (h .number) (length (h .lent))))
+  left-there : listing ≡ compiledListing (h .count) (leftBy (h .bytes) (h .number) (h .lent))
   left-there = h .listed ∙ ap (compiledListing (h .count)) (h .compiling .leaving)
 
   -- the rod does not refuse it

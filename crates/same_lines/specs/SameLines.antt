@@ -14,8 +14,8 @@ use Rattle.checks.specs.declared.ComparisonAnswer.{ComparisonAnswer}
 use Rattle.checks.specs.declared.ComparisonAnswer.the-variants.{Alike}
 use Rattle.peal.specs.SetsOfRules.{Among}
 use Rattle.compiler.specs.Compiling.{compiledListing}
+use Rattle.compiler.specs.Meaning.{CompilingRan}
 use Rattle.compiler.specs.declared.Compiled.the-variants.{Records}
-use Rattle.agreement.specs.Demand3.{CompilingRan}
 
 -- ---- two compiled listings of one policy each
 

@@ -41,17 +41,12 @@ over-mul r [] = sym (times-one (r .score))
 over-mul r (q ∷ rs) = ap (λ (z : ℤ). r .score *ℤ z) (over-mul q rs)
 
 -- in parts
-pub applied-min : (r : Rule) (rs : List Rule) → scaled (over Min r rs) ≡ applied Min r rs
+pub applied-whole : (o : Operator) → (o ≡ Mul → ⊥) → (r : Rule) (rs : List Rule) → scaled (over o r rs) ≡ applied o r rs
 unfolding applied combinedOf
-applied-min r rs = ap scaled (over-all smaller Min (λ v w. refl) r rs)
-
-pub applied-max : (r : Rule) (rs : List Rule) → scaled (over Max r rs) ≡ applied Max r rs
-unfolding applied combinedOf
-applied-max r rs = ap scaled (over-all larger Max (λ v w. refl) r rs)
-
-pub applied-sum : (r : Rule) (rs : List Rule) → scaled (over Sum r rs) ≡ applied Sum r rs
-unfolding applied
-applied-sum r rs = ap scaled (over-sum r rs)
+applied-whole Min h r rs = ap scaled (over-all smaller Min (λ v w. refl) r rs)
+applied-whole Max h r rs = ap scaled (over-all larger Max (λ v w. refl) r rs)
+applied-whole Sum h r rs = ap scaled (over-sum r rs)
+applied-whole Mul h r rs = absurd (h refl)
 
 pub applied-mul : (r : Rule) (rs : List Rule) → over Mul r rs *ℤ pos (100 ^ (8 - length (r ∷ rs))) ≡ applied Mul r rs
 unfolding applied scaledProduct

@@ -21,7 +21,7 @@ use Rattle.book.proofs.ScoreSizes.{within-mag, InScore, InRange, Room}
 use Rattle.book.proofs.StoredRules.{rules-before}
 use Rattle.score.specs.PolicyScores.{ruleScore, over, presentOf, withScore}
 use Rattle.score.specs.declared.policies.Present.{Present}
-use Rattle.score.proofs.PolicyLaws.{applied-mul, mul-natural, over-small, present-more}
+use Rattle.score.proofs.PolicyLaws.{applied-whole, applied-mul, mul-natural, over-small, present-more}
 
 module _ (q : Policy) (i set : ℕ) (t : Bool) (told : t ≡ present set (getD (q .rules) i noRule .signal)) where
   pub rule-present : t ≡ true → (v : ℤ) → v ≡ getD (q .rules) i noRule .score → some v ≡ ruleScore set (getD (q .rules) i noRule)
@@ -144,11 +144,9 @@ module _ (set : ℕ) (q : Policy) (so : Present) (told : so ≡ presentOf q (pre
         go (r ∷ rs) h = f r rs h
 
     -- min, max and sum
-    pub whole-score : (o : Operator) → q .operator ≡ o → ((r : Rule) (rs : List Rule) → scaled (over o r rs) ≡ applied o r rs) → scaled (so .value) ≡ policyScore set q
+    pub whole-score : (q .operator ≡ Mul → ⊥) → scaled (so .value) ≡ policyScore set q
     unfolding presentOf
-    whole-score o e f =
-        by-rules (λ (x : Present) (z : ℤ). scaled (x .value) ≡ z)
-        (λ r rs h. subst (λ (p : Operator). scaled (over p r rs) ≡ applied p r rs) (sym e) (f r rs))
+    whole-score h = by-rules (λ (x : Present) (z : ℤ). scaled (x .value) ≡ z) (λ r rs _. applied-whole (q .operator) h r rs)
 
     pub product-score : q .operator ≡ Mul → so .value *ℤ pos (100 ^ (8 - so .count)) ≡ policyScore set q
     unfolding presentOf

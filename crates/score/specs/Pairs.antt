@@ -13,6 +13,13 @@ pub record Is (x : Exact) (v : ℤ) : Type 0 where
   pub small : x .remainder < 10 ^ 14
   pub same : scaled (x .hundredths) +ℤ pos (x .remainder) ≡ v
 
+-- so it is for each score that a pair may be, and for each two scores that two pairs may be
+abbrev pub ForScore : Exact → (ℤ → Type 0) → Type 0
+ForScore x P = (v : ℤ) → Is x v → P v
+
+abbrev pub ForScores : Exact → Exact → (ℤ → ℤ → Type 0) → Type 0
+ForScores x y P = (v w : ℤ) → Is x v → Is y w → P v w
+
 -- less, or at most where equality counts
 unfoldable pub ordered : Bool → ℤ → ℤ → Bool
 ordered true v w = leZ v w

@@ -1,9 +1,9 @@
 // Exact scores: nothing is rounded, and pairs are compared as they are.
 ghost use mathlib.Core.Path.{_≡_};
 ghost use Prim.Native.Nat.{_-_, _^_, _≤_};
-ghost use lib.IntN.{ℤ, pos, _*ℤ_};
+ghost use lib.IntN.{pos, _*ℤ_};
 ghost use Rattle.peal.specs.Score.{scaled, ofTwo, meets as meetsOf};
-ghost use Rattle.score.specs.Pairs.{Is, ordered, choiceMeaning};
+ghost use Rattle.score.specs.Pairs.{Is, ForScore, ForScores, ordered, choiceMeaning};
 
 // A score: hundredths, and a remainder in parts, of which a hundredth has 10 to the 14.
 pub struct Exact {
@@ -11,12 +11,21 @@ pub struct Exact {
     pub remainder: u64,
 }
 
-// Some hundredths.
-pub fn whole(h: i64) -> Exact
-    ensures { λ r. ⌜ Is r (scaled h) ⌝ }
+// A hundredth, in parts.
+const HUNDREDTH: u64 = 100000000000000;
+
+// A unit, in hundredths.
+const UNIT: u64 = 100;
+
+// So many scores are multiplied at most; the parts are those of a product of so many.
+const MOST_FACTORS: usize = 8;
+
+// A score without a remainder.
+pub fn whole(hundredths: i64) -> Exact
+    ensures { λ r. ⌜ Is r (scaled hundredths) ⌝ }
 {
     Exact {
-        hundredths: h,
+        hundredths: hundredths,
         remainder: 0,
     }
 }
@@ -27,20 +36,20 @@ pub fn of_product(product: u64, count: usize) -> Exact
     ensures { λ r. ⌜ Is r (pos product *ℤ pos (100 ^ (8 - count))) ⌝ }
 {
     let mut parts = product;
-    let mut k = count;
-    while k < 8 {
-        parts *= 100;
-        k += 1;
+    let mut factors = count;
+    while factors < MOST_FACTORS {
+        parts *= UNIT;
+        factors += 1;
     }
     Exact {
-        hundredths: (parts / 100000000000000) as i64,
-        remainder: parts % 100000000000000,
+        hundredths: (parts / HUNDREDTH) as i64,
+        remainder: parts % HUNDREDTH,
     }
 }
 
 // One is less than two; or equal to it, where that counts.
-pub fn in_order(one: Exact, two: Exact, equal: bool) -> bool
-    ensures { λ r. ⌜ ((v w : ℤ) → Is one v → Is two w → r ≡ ordered equal v w) ⌝ }
+fn in_order(one: Exact, two: Exact, equal: bool) -> bool
+    ensures { λ r. ⌜ ForScores one two (λ v w. r ≡ ordered equal v w) ⌝ }
 {
     if one.hundredths < two.hundredths {
         return true;
@@ -57,7 +66,7 @@ pub fn in_order(one: Exact, two: Exact, equal: bool) -> bool
 
 // The smaller of two scores, or the larger.
 pub fn chosen(larger: bool, one: Exact, two: Exact) -> Exact
-    ensures { λ r. ⌜ ((v w : ℤ) → Is one v → Is two w → Is r (ofTwo (choiceMeaning larger) v w)) ⌝ }
+    ensures { λ r. ⌜ ForScores one two (λ v w. Is r (ofTwo (choiceMeaning larger) v w)) ⌝ }
 {
     if in_order(one, two, true) {
         if larger { two } else { one }
@@ -67,12 +76,12 @@ pub fn chosen(larger: bool, one: Exact, two: Exact) -> Exact
 }
 
 // The score meets the condition.
-pub fn meets(sense: peal::Sense, threshold: i32, x: Exact) -> bool
-    ensures { λ r. ⌜ ((v : ℤ) → Is x v → r ≡ meetsOf sense threshold v) ⌝ }
+pub fn meets(sense: peal::Sense, threshold: i32, score: Exact) -> bool
+    ensures { λ r. ⌜ ForScore score (λ v. r ≡ meetsOf sense threshold v) ⌝ }
 {
-    let t = whole(threshold as i64);
+    let limit = whole(threshold as i64);
     match sense {
-        peal::Sense::Above => in_order(t, x, false),
-        peal::Sense::AtMost => in_order(x, t, true),
+        peal::Sense::Above => in_order(limit, score, false),
+        peal::Sense::AtMost => in_order(score, limit, true),
     }
 }

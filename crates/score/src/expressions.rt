@@ -6,11 +6,12 @@ use crate::policies::policy_score;
 ghost use Rattle.book.specs.Ranges.{ConditionKept};
 ghost use Rattle.peal.specs.Score.{score};
 ghost use Rattle.score.specs.Pairs.{Is};
+ghost use Rattle.score.specs.ExpressionScores.{ForCondition};
 
 // The score of condition n. The first `height` cells of `scores` wait, the last of them is joined first.
 pub fn expression_score(cells: &book::Cells, n: usize, set: u16) -> Exact
     requires { ⌜ ConditionKept (now cells) n ⌝ }
-    ensures { λ r. ⌜ ((h : ConditionKept (now (cells .entry)) n) → Is r (score (h .book .policies) set (h .condition .expression))) ⌝ }
+    ensures { λ r. ⌜ ForCondition (now (cells .entry)) n (λ ps c. Is r (score ps set (c .expression))) ⌝ }
 {
     let all = book::length_at(cells, n);
     let zero = whole(0);
@@ -22,12 +23,12 @@ pub fn expression_score(cells: &book::Cells, n: usize, set: u16) -> Exact
         if code < 2 {
             let one = scores[height - 2];
             let two = scores[height - 1];
-            let x = chosen(code == 1, one, two);
-            scores[height - 2] = x;
+            let joined = chosen(code == 1, one, two);
+            scores[height - 2] = joined;
             height -= 1;
         } else {
-            let x = policy_score(cells, code as usize - 2, set);
-            scores[height] = x;
+            let mentioned = policy_score(cells, code as usize - 2, set);
+            scores[height] = mentioned;
             height += 1;
         }
         i += 1;

@@ -12,6 +12,7 @@ ghost use mathlib.Core.Path.{_≡_};
 ghost use Rattle.peal.specs.Score.{decision};
 ghost use Rattle.book.specs.Ranges.{ConditionKept};
 ghost use Rattle.score.specs.Decisions.{scoredAnswer};
+ghost use Rattle.score.specs.ExpressionScores.{ForCondition};
 ghost use Rattle.score.specs.Shown.{shownAnswer};
 ghost use Rattle.score.specs.Meaning.{scoreMeaning, shownMeaning};
 
@@ -19,21 +20,18 @@ ghost use Rattle.score.specs.Meaning.{scoreMeaning, shownMeaning};
 pub enum Decision {
     Yes,
     No,
-    // The book was refused.
-    Refused(book::Refusal),
-    // The book has no condition of that number.
-    NoCondition,
+    Declined(book::Declined),
 }
 
 // Condition n of a read book is met on the set.
 fn is_met(cells: &book::Cells, n: usize, set: u16) -> bool
     requires { ⌜ ConditionKept (now cells) n ⌝ }
-    ensures { λ r. ⌜ ((h : ConditionKept (now (cells .entry)) n) → r ≡ decision (h .book .policies) (h .condition) set) ⌝ }
+    ensures { λ r. ⌜ ForCondition (now (cells .entry)) n (λ ps c. r ≡ decision ps c set) ⌝ }
 {
     let sense = book::sense_at(cells, n);
     let threshold = book::threshold_at(cells, n);
-    let x = expression_score(cells, n, set);
-    meets(sense, threshold, x)
+    let score = expression_score(cells, n, set);
+    meets(sense, threshold, score)
 }
 
 pub fn decide(bytes: &[u8], condition: u32, set: u16) -> Decision
@@ -49,8 +47,7 @@ pub fn decide(bytes: &[u8], condition: u32, set: u16) -> Decision
                 Decision::No
             }
         }
-        book::Asked::Refused(refusal) => Decision::Refused(refusal),
-        book::Asked::NoCondition => Decision::NoCondition,
+        book::Asked::Declined(declined) => Decision::Declined(declined),
     }
 }
 
@@ -58,10 +55,7 @@ pub fn decide(bytes: &[u8], condition: u32, set: u16) -> Decision
 pub enum Evaluation {
     // That of its expression on the set: hundredths rounded toward minus infinity, and the exact remainder.
     Score(Exact),
-    // The book was refused.
-    Refused(book::Refusal),
-    // The book has no condition of that number.
-    NoCondition,
+    Declined(book::Declined),
 }
 
 pub fn evaluate(bytes: &[u8], condition: u32, set: u16) -> Evaluation
@@ -71,10 +65,9 @@ pub fn evaluate(bytes: &[u8], condition: u32, set: u16) -> Evaluation
     let asked = book::ask(bytes, condition, &mut cells);
     match asked {
         book::Asked::Condition(n) => {
-            let x = expression_score(&cells, n, set);
-            Evaluation::Score(x)
+            let shown = expression_score(&cells, n, set);
+            Evaluation::Score(shown)
         }
-        book::Asked::Refused(refusal) => Evaluation::Refused(refusal),
-        book::Asked::NoCondition => Evaluation::NoCondition,
+        book::Asked::Declined(declined) => Evaluation::Declined(declined),
     }
 }

@@ -6,12 +6,11 @@ ghost use mathlib.Core.Path.{_≡_};
 ghost use Prim.Native.Nat.{_^_, _≤_, _<_};
 ghost use lib.ListN.{length, getD};
 ghost use lib.Signed.{mag};
-ghost use Rattle.peal.specs.Policies.{Policy as PealPolicy, noRule};
+ghost use Rattle.peal.specs.Policies.{noRule};
 ghost use Rattle.peal.specs.Score.{presentRules, policyScore};
 ghost use Rattle.book.specs.Ranges.{PolicyKept};
-ghost use Rattle.book.specs.Cells.{PolicyCells};
 ghost use Rattle.score.specs.Pairs.{Is};
-ghost use Rattle.score.specs.PolicyScores.{ruleScore, scoredMeaning, presentOf, withScore};
+ghost use Rattle.score.specs.PolicyScores.{ForPolicy, ruleScore, scoredMeaning, presentOf, withScore};
 
 // What a rule adds on a signal set.
 pub enum Scored {
@@ -22,7 +21,7 @@ pub enum Scored {
 // Rule i of policy k on the set.
 fn rule_score(cells: &book::Cells, k: usize, i: usize, set: u16) -> Scored
     requires { ⌜ ((h : PolicyKept (now cells) k) × (i < length (h .policy .rules))) ⌝ }
-    ensures { λ r. ⌜ ((q : PealPolicy) → PolicyCells (now (cells .entry)) k q → scoredMeaning r ≡ ruleScore set (getD (q .rules) i noRule)) ⌝ }
+    ensures { λ r. ⌜ ForPolicy (now (cells .entry)) k (λ p. scoredMeaning r ≡ ruleScore set (getD (p .rules) i noRule)) ⌝ }
 {
     let signal = book::signal_at(cells, k, i);
     let score = book::score_at(cells, k, i);
@@ -41,18 +40,21 @@ pub struct Present {
 }
 
 // One present rule more.
-fn with_score(o: peal::Operator, so: Present, v: i64) -> Present
-    requires { ⌜ (so .count < 16) × (mag (withScore o so v .value) ≤ 10 ^ 16) ⌝ }
-    ensures { λ r. ⌜ r ≡ withScore o so v ⌝ }
+fn with_score(operator: peal::Operator, so: Present, score: i64) -> Present
+    requires { ⌜ (so .count < 16) × (mag (withScore operator so score .value) ≤ 10 ^ 16) ⌝ }
+    ensures { λ r. ⌜ r ≡ withScore operator so score ⌝ }
 {
-    let n = so.count;
-    if n == 0 {
-        Present { count: 1, value: v }
-    } else {
-        let w = so.value;
+    let count = so.count;
+    if count == 0 {
         Present {
-            count: n + 1,
-            value: peal::combined(o, v, w),
+            count: 1,
+            value: score,
+        }
+    } else {
+        let value = so.value;
+        Present {
+            count: count + 1,
+            value: peal::combined(operator, score, value),
         }
     }
 }
@@ -60,20 +62,20 @@ fn with_score(o: peal::Operator, so: Present, v: i64) -> Present
 // The rules of policy k that are present, taken from the last to the first.
 fn present_rules(cells: &book::Cells, k: usize, set: u16) -> Present
     requires { ⌜ PolicyKept (now cells) k ⌝ }
-    ensures { λ r. ⌜ ((q : PealPolicy) → PolicyCells (now (cells .entry)) k q → r ≡ presentOf q (presentRules set (q .rules))) ⌝ }
+    ensures { λ r. ⌜ ForPolicy (now (cells .entry)) k (λ p. r ≡ presentOf p (presentRules set (p .rules))) ⌝ }
 {
-    let o = book::operator_at(cells, k);
-    let d = book::default_at(cells, k);
+    let operator = book::operator_at(cells, k);
+    let default = book::default_at(cells, k);
     let mut so = Present {
         count: 0,
-        value: d as i64,
+        value: default as i64,
     };
     let mut i = book::count_at(cells, k);
     while 0 < i {
         i -= 1;
-        let s = rule_score(cells, k, i, set);
-        if let Scored::Present(v) = s {
-            so = with_score(o, so, v);
+        let scored = rule_score(cells, k, i, set);
+        if let Scored::Present(score) = scored {
+            so = with_score(operator, so, score);
         }
     }
     so
@@ -82,19 +84,18 @@ fn present_rules(cells: &book::Cells, k: usize, set: u16) -> Present
 // The score of policy k: with no rule present the default, otherwise the operator over the present rules alone.
 pub fn policy_score(cells: &book::Cells, k: usize, set: u16) -> Exact
     requires { ⌜ PolicyKept (now cells) k ⌝ }
-    ensures { λ r. ⌜ ((q : PealPolicy) → PolicyCells (now (cells .entry)) k q → Is r (policyScore set q)) ⌝ }
+    ensures { λ r. ⌜ ForPolicy (now (cells .entry)) k (λ p. Is r (policyScore set p)) ⌝ }
 {
     let so = present_rules(cells, k, set);
-    let n = so.count;
+    let count = so.count;
     let value = so.value;
-    if n == 0 {
+    if count == 0 {
         return whole(value);
     }
-    let o = book::operator_at(cells, k);
-    match o {
-        peal::Operator::Mul => of_product(value as u64, n),
-        peal::Operator::Min => whole(value),
-        peal::Operator::Max => whole(value),
-        peal::Operator::Sum => whole(value),
+    let operator = book::operator_at(cells, k);
+    if let peal::Operator::Mul = operator {
+        of_product(value as u64, count)
+    } else {
+        whole(value)
     }
 }

@@ -7,7 +7,7 @@ use lib.Seq.{length-take-le}
 use Rattle.compiler.specs.Compiling.{compiled, returned}
 use Rattle.compiler.specs.Meaning.{compiledMeaning}
 use Rattle.compiler.specs.declared.Compiled.{Compiled}
-use Rattle.compiler.proofs.CompiledLaws.{CompiledFrom, compiled-from}
+use Rattle.compiler.proofs.CompiledLaws.{CompiledFrom, returned-from}
 use Rattle.agreement.proofs.BothLaws.{both-refused, both-said, both-held}
 use Rattle.agreement.proofs.ask_both.Statement.{statement}
 use Rattle.agreement.proofs.ask_both.Tie as tie
@@ -21,12 +21,12 @@ enum-known-answer c = search needs
 -- the answer in an arm is the definition's
 told : (c : tie.After-compile) (v : Compiled) → c .compile .result ≡ v → let s = c .before .before .before .before in
     compiledMeaning v ≡ returned (compiled (now (s .args .bytes)) (s .args .condition) (length (now (s .args .words))))
-told c v e = sym (ap compiledMeaning e) ∙ c .compile .ensures .0
+told c v e = sym (ap compiledMeaning e) ∙ c .compile .ensures .returning
 
 -- what compiling made where it returned a number of records
 made : (c : tie.After-answer) → let s = c .before .before .before .before .before .before .before .before in
     CompiledFrom (now (s .args .bytes)) (s .args .condition) (now (s .args .words)) (c .answer .given .0 .0)
-made c = let x = c .before .before .before .before in compiled-from _ _ _ _ (sym (told x _ (c .answer .given .1)))
+made c = returned-from (c .before .before .before .before .compile .ensures) (c .answer .given .1)
 
 mul-end : tie.Need-mul-end
 mul-end c = let h = made (c .before) .room in search needs
@@ -49,9 +49,6 @@ enum-known-answer-2 c = search needs
 enum-told : tie.Need-enum-told
 enum-told c = search needs
 
-enum-told-2 : tie.Need-enum-told-2
-enum-told-2 c = search needs
-
 same-length : tie.Need-same-length
 same-length c = search needs
 
@@ -60,7 +57,7 @@ returns c =
     let a = c .before .before .before .before in
     let x = a .before .before .before .before in
     let e = told x _ (a .answer .given .1) in
-    let left = x .compile .ensures .1 in
+    let left = x .compile .ensures .leaving in
     let rod = c .before .decide .result in
     let logger = c .decide2 .result in
     let read = c .before .decide .ensures in
@@ -73,7 +70,7 @@ same-length-2 c = search needs
 returns-2 : tie.Need-returns-2
 returns-2 c =
     let x = c .before .before .before .before .before in
-    (both-refused _ _ _ _ _ _ (told x _ (c .before .answer2 .given .1)), (x .compile .ensures .1, tt))
+    (both-refused _ _ _ _ _ _ (told x _ (c .before .answer2 .given .1)), (x .compile .ensures .leaving, tt))
 
 same-length-3 : tie.Need-same-length-3
 same-length-3 c = search needs
@@ -81,18 +78,10 @@ same-length-3 c = search needs
 returns-3 : tie.Need-returns-3
 returns-3 c =
     let x = c .before .before .before .before in
-    (both-refused _ _ _ _ _ _ (told x _ (c .enum-told .given .1)), (x .compile .ensures .1, tt))
-
-same-length-4 : tie.Need-same-length-4
-same-length-4 c = search needs
-
-returns-4 : tie.Need-returns-4
-returns-4 c =
-    let x = c .before .before .before .before in
-    (both-refused _ _ _ _ _ _ (told x _ (c .enum-told2 .given .1)), (x .compile .ensures .1, tt))
+    (both-refused _ _ _ _ _ _ (told x _ (c .enum-told .given .1)), (x .compile .ensures .leaving, tt))
 
 pub ask-both-spec : {M : Type 1} → statement M
 ask-both-spec =
     tie.close
     (tie.spec compile-requires enum-known-answer mul-end slice-reshare-prefix-decide slice-aggregate-decide decide-requires decide-requires-2 enum-known-answer-2
-    enum-told enum-told-2 same-length returns same-length-2 returns-2 same-length-3 returns-3 same-length-4 returns-4)
+    enum-told same-length returns same-length-2 returns-2 same-length-3 returns-3)

@@ -1,11 +1,11 @@
--- `compiler::compile`: the condition's listing, the book's refusal, or no such condition.
+-- `compiler::compile`: the condition's listing, or why there is no such condition.
 use mathlib.Core.Path.{_≡_, ap, subst, _∙_}
 use borrow.Author.Needs.{needs}
 use denote.Ref.{now}
 use Rattle.book.specs.Asked.{AskedAs}
 use Rattle.book.specs.declared.Asked.{Asked}
-use Rattle.compiler.specs.Compiling.{returned, lentAfter}
-use Rattle.compiler.proofs.RoomLaws.{refused-answer, asked-answer}
+use Rattle.book.proofs.AskedLaws.{on-asked}
+use Rattle.compiler.specs.Compiling.{compiled, returned, lentAfter}
 use Rattle.compiler.proofs.compile.Statement.{statement}
 use Rattle.compiler.proofs.compile.Tie as tie
 
@@ -26,32 +26,27 @@ compile-condition-requires c κs = let a = c .before .before .before in arm (a .
 enum-known-asked-2 : tie.Need-enum-known-asked-2
 enum-known-asked-2 c = search needs
 
-enum-told : tie.Need-enum-told
-enum-told c = search needs
-
 same-length : tie.Need-same-length
 same-length c = search needs
 
 returns : tie.Need-returns
+unfolding compiled
 returns c =
     let m = c .before .before in
     let a = m .before .before .before .before in
-    let s = a .before .before .before .before .before .before in
-    let w = now (s .args .words) in
     let f = arm (a .before .before) _ (a .asked .given .1) in
-    let same = asked-answer (now (s .args .bytes)) (s .args .condition) w (f .kept .book) (f .kept .condition) (f .told) in
-    (m .compile-condition .ensures .0 (f .kept) ∙ ap returned same, m .compile-condition .ensures .1 (f .kept) ∙ ap (lentAfter w) same)
+    let same = on-asked _ (f .told) in
+    record {
+      returning = m .compile-condition .ensures .0 (f .kept) ∙ ap returned same;
+      leaving = m .compile-condition .ensures .1 (f .kept) ∙ ap (lentAfter _) same;
+    }
 
 returns-2 : tie.Need-returns-2
+unfolding compiled returned lentAfter
 returns-2 c =
     let a = c .before in
-    let s = a .before .before .before .before .before .before in
-    refused-answer (now (s .args .bytes)) (s .args .condition) (now (s .args .words)) _ _ (arm (a .before .before) _ (a .asked2 .given .1))
-
-returns-3 : tie.Need-returns-3
-returns-3 c =
-    let s = c .before .before .before .before .before .before in
-    refused-answer (now (s .args .bytes)) (s .args .condition) (now (s .args .words)) _ _ (arm (c .before .before) _ (c .enum-told .given .1))
+    let same = on-asked _ (arm (a .before .before) _ (a .asked2 .given .1)) in
+    record { returning = ap returned same; leaving = ap (lentAfter _) same }
 
 pub compile-spec : {M : Type 1} → statement M
 compile-spec =
@@ -61,8 +56,6 @@ compile-spec =
     enum-known-asked
     compile-condition-requires
     enum-known-asked-2
-    enum-told
     same-length
     returns
-    returns-2
-    returns-3)
+    returns-2)

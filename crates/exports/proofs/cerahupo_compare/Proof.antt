@@ -6,7 +6,7 @@ use denote.Ref.{now}
 use Rattle.checks.specs.Checks.{comparison}
 use Rattle.checks.specs.Meaning.{comparisonMeaning}
 use Rattle.checks.specs.declared.ComparisonAnswer.{ComparisonAnswer}
-use Rattle.exports.specs.Packing.{asOne, ofSecond, packedComparison}
+use Rattle.exports.specs.Packing.{secondHigher, asOne, ofSecond, packedComparison}
 use Rattle.exports.proofs.ListingRefusals.{first-in-table, second-in-table}
 use borrow.Author.Needs.{needs}
 use Rattle.exports.proofs.cerahupo_compare.Statement.{statement}
@@ -59,7 +59,7 @@ answer : (c : tie.After-compare) (v : ComparisonAnswer) → c .compare .result �
     comparisonMeaning v ≡ comparison (now (s .args .one)) (now (s .args .two))
 answer c v e = sym (ap comparisonMeaning e) ∙ c .compare .ensures
 
-second : (r number value : ℕ) → r ≡ asOne number value → r + 16 ≡ asOne (ofSecond number) value
+second : (r number value : ℕ) → r ≡ asOne number value → r + secondHigher ≡ asOne (ofSecond number) value
 second r number value e = omega arith
 
 refused-listing-requires : tie.Need-refused-listing-requires

@@ -6,7 +6,7 @@ use lib.ListN.{length}
 use Rattle.compiler.specs.Compiling.{compiled, returned}
 use Rattle.compiler.specs.Meaning.{compiledMeaning}
 use Rattle.compiler.specs.declared.Compiled.{Compiled}
-use Rattle.compiler.proofs.CompiledLaws.{compiled-from}
+use Rattle.compiler.proofs.CompiledLaws.{returned-from}
 use Rattle.exports.specs.Packing.{packed, itself}
 use Rattle.exports.proofs.Refusals.{in-table}
 use Rattle.exports.proofs.BookRefusals.{compiling}
@@ -23,20 +23,19 @@ enum-known-c c = search needs
 -- the answer in an arm is the definition's
 answer : (c : tie.After-compile) (v : Compiled) → c .compile .result ≡ v → let s = c .before .before .before .before in
     compiledMeaning v ≡ returned (compiled (now (s .args .bytes)) (s .args .condition) (length (now (s .args .words))))
-answer c v e = sym (ap compiledMeaning e) ∙ c .compile .ensures .0
+answer c v e = sym (ap compiledMeaning e) ∙ c .compile .ensures .returning
 
 accepted-requires : tie.Need-accepted-requires
 accepted-requires c κs =
     let a = c .before in
     let x = a .before .before .before .before in
-    let s = x .before .before .before .before in
-    omega (arith, s .good, compiled-from _ _ (now (s .args .words)) _ (sym (answer x _ (a .c .given .1))) .room)
+    omega (arith, x .before .before .before .before .good, returned-from (x .compile .ensures) (a .c .given .1) .room)
 
 enum-known-c-2 : tie.Need-enum-known-c-2
 enum-known-c-2 c = search needs
 
-refused-book-requires : tie.Need-refused-book-requires
-refused-book-requires c κs =
+declined-requires : tie.Need-declined-requires
+declined-requires c κs =
     let a = c .before in
     omega (arith, in-table (compiling _ _ _) (answer (a .before .before .before .before) _ (a .c2 .given .1)))
 
@@ -46,20 +45,15 @@ enum-told c = search needs
 refused-requires : tie.Need-refused-requires
 refused-requires c κs = search needs
 
-enum-told-2 : tie.Need-enum-told-2
-enum-told-2 c = search needs
-
-refused-requires-2 : tie.Need-refused-requires-2
-refused-requires-2 c κs = search needs
-
 same-length : tie.Need-same-length
 same-length c = search needs
 
 returns : tie.Need-returns
 unfolding packed
 returns c =
-    let x = c .before .before .before .before .before .before in
-    (c .accepted .ensures ∙ ap (packed itself) (answer x _ (c .before .before .c .given .1)), x .compile .ensures .1)
+    let a = c .before .before in
+    let x = a .before .before .before .before in
+    record { packing = c .accepted .ensures ∙ ap (packed itself) (answer x _ (a .c .given .1)); leaving = x .compile .ensures .leaving }
 
 same-length-2 : tie.Need-same-length-2
 same-length-2 c = search needs
@@ -67,8 +61,9 @@ same-length-2 c = search needs
 returns-2 : tie.Need-returns-2
 unfolding packed
 returns-2 c =
-    let x = c .before .before .before .before .before .before in
-    (c .refused-book .ensures ∙ ap (packed itself) (answer x _ (c .before .before .c2 .given .1)), x .compile .ensures .1)
+    let a = c .before .before in
+    let x = a .before .before .before .before in
+    record { packing = c .declined .ensures ∙ ap (packed itself) (answer x _ (a .c2 .given .1)); leaving = x .compile .ensures .leaving }
 
 same-length-3 : tie.Need-same-length-3
 same-length-3 c = search needs
@@ -76,17 +71,9 @@ same-length-3 c = search needs
 returns-3 : tie.Need-returns-3
 unfolding packed
 returns-3 c =
-    let x = c .before .before .before .before .before in
-    (c .refused .ensures ∙ ap (packed itself) (answer x _ (c .before .enum-told .given .1)), x .compile .ensures .1)
-
-same-length-4 : tie.Need-same-length-4
-same-length-4 c = search needs
-
-returns-4 : tie.Need-returns-4
-unfolding packed
-returns-4 c =
-    let x = c .before .before .before .before .before in
-    (c .refused2 .ensures ∙ ap (packed itself) (answer x _ (c .before .enum-told2 .given .1)), x .compile .ensures .1)
+    let a = c .before in
+    let x = a .before .before .before .before in
+    record { packing = c .refused .ensures ∙ ap (packed itself) (answer x _ (a .enum-told .given .1)); leaving = x .compile .ensures .leaving }
 
 pub cerahupo-compile-spec : {M : Type 1} → statement M
 cerahupo-compile-spec =
@@ -96,16 +83,12 @@ cerahupo-compile-spec =
     enum-known-c
     accepted-requires
     enum-known-c-2
-    refused-book-requires
+    declined-requires
     enum-told
     refused-requires
-    enum-told-2
-    refused-requires-2
     same-length
     returns
     same-length-2
     returns-2
     same-length-3
-    returns-3
-    same-length-4
-    returns-4)
+    returns-3)

@@ -1,6 +1,7 @@
 -- `exports::cerahupo_decide`: the logger's answer, packed.
 use mathlib.Core.Path.{_≡_, sym, ap, _∙_}
 use native.Mathlib.Omega.{arith}
+use borrow.Author.Needs.{needs}
 use denote.Ref.{now}
 use Rattle.layout.specs.Records.{bit}
 use Rattle.score.specs.Decisions.{scoredAnswer}
@@ -9,7 +10,6 @@ use Rattle.score.specs.declared.Decision.{Decision}
 use Rattle.exports.specs.Packing.{packed}
 use Rattle.exports.proofs.Refusals.{in-table}
 use Rattle.exports.proofs.BookRefusals.{deciding}
-use borrow.Author.Needs.{needs}
 use Rattle.exports.proofs.cerahupo_decide.Statement.{statement}
 use Rattle.exports.proofs.cerahupo_decide.Tie as tie
 
@@ -36,14 +36,8 @@ answer : (c : tie.After-decide) (v : Decision) → c .decide .result ≡ v → l
     scoreMeaning v ≡ scoredAnswer (now (s .args .bytes)) (s .args .condition) (s .args .set)
 answer c v e = sym (ap scoreMeaning e) ∙ c .decide .ensures
 
-refused-book-requires : tie.Need-refused-book-requires
-refused-book-requires c κs = omega (arith, in-table (deciding _ _ _) (answer (c .before .before .before) _ (c .before .d .given .1)))
-
-enum-told-3 : tie.Need-enum-told-3
-enum-told-3 c = search needs
-
-refused-requires : tie.Need-refused-requires
-refused-requires c κs = search needs
+declined-requires : tie.Need-declined-requires
+declined-requires c κs = omega (arith, in-table (deciding _ _ _) (answer (c .before .before .before) _ (c .before .d .given .1)))
 
 returns : tie.Need-returns
 unfolding packed bit
@@ -55,11 +49,7 @@ returns-2 c = let a = c .before in c .accepted2 .ensures ∙ ap (packed bit) (an
 
 returns-3 : tie.Need-returns-3
 unfolding packed
-returns-3 c = let a = c .before .before in c .refused-book .ensures ∙ ap (packed bit) (answer (a .before .before) _ (a .d .given .1))
-
-returns-4 : tie.Need-returns-4
-unfolding packed
-returns-4 c = let a = c .before in c .refused .ensures ∙ ap (packed bit) (answer (a .before .before) _ (a .enum-told3 .given .1))
+returns-3 c = let a = c .before .before in c .declined .ensures ∙ ap (packed bit) (answer (a .before .before) _ (a .d .given .1))
 
 pub cerahupo-decide-spec : {M : Type 1} → statement M
 cerahupo-decide-spec =
@@ -71,10 +61,7 @@ cerahupo-decide-spec =
     enum-told-2
     accepted-requires-2
     enum-known-d
-    refused-book-requires
-    enum-told-3
-    refused-requires
+    declined-requires
     returns
     returns-2
-    returns-3
-    returns-4)
+    returns-3)

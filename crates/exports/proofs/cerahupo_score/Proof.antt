@@ -11,7 +11,7 @@ use Rattle.arith.proofs.Signed.{both-fit, both-back, natural-fits}
 use Rattle.score.specs.Shown.{shownAnswer}
 use Rattle.score.specs.Meaning.{shownMeaning}
 use Rattle.score.specs.declared.Evaluation.{Evaluation}
-use Rattle.exports.specs.Packing.{asOne, packed, scoreValue, remainderAfter}
+use Rattle.exports.specs.Packing.{belowZero, asOne, packed, scoreValue, remainderAfter}
 use Rattle.exports.proofs.Refusals.{in-table}
 use Rattle.exports.proofs.BookRefusals.{scoring}
 use Rattle.exports.proofs.Results.{hundredths-natural}
@@ -37,20 +37,20 @@ module _ (c : tie.After-struct-told) where
   fits : SFits w64 hundredths
   fits = search needs
 
-  counted : (n : ℕ) × (hundredths +ℤ pos 10000 ≡ pos n) × (n ≤ 170000)
+  counted : (n : ℕ) × (hundredths +ℤ belowZero ≡ pos n) × (n ≤ 170000)
   counted =
       let e = c .before .before .before in
       let s = e .before .before .before .before in
       hundredths-natural (now (s .args .bytes)) (s .args .condition) (s .args .set) _ (sym (answer (e .before .before) _ (e .evaluation .given .1)))
 
-  sum-fits : SFits w64 (hundredths +ℤ pos 10000)
+  sum-fits : SFits w64 (hundredths +ℤ belowZero)
   sum-fits = let (n, e, l) = counted in subst (SFits w64) (sym e) (record { sfits = omega arith })
 
-  sum-back : toZ w64 (ofZ w64 (toZ w64 (ofZ w64 hundredths) +ℤ pos 10000)) ≡ hundredths +ℤ pos 10000
-  sum-back = both-back w64 _+ℤ_ hundredths (pos 10000) fits (record { sfits = omega arith }) sum-fits
+  sum-back : toZ w64 (ofZ w64 (toZ w64 (ofZ w64 hundredths) +ℤ belowZero)) ≡ hundredths +ℤ belowZero
+  sum-back = both-back w64 _+ℤ_ hundredths belowZero fits (record { sfits = omega arith }) sum-fits
 
 add-value : tie.Need-add-value
-add-value c = both-fit w64 _+ℤ_ (hundredths c) (pos 10000) (fits c) (record { sfits = omega arith }) (sum-fits c)
+add-value c = both-fit w64 _+ℤ_ (hundredths c) belowZero (fits c) (record { sfits = omega arith }) (sum-fits c)
 
 cast-value : tie.Need-cast-value
 cast-value c = let (n, e, l) = counted c in natural-fits _ n (sum-back c ∙ e) (omega arith)
@@ -61,14 +61,8 @@ accepted-requires c κs = let (n, e, l) = counted c in omega (arith, ap natAbs (
 enum-known-evaluation-2 : tie.Need-enum-known-evaluation-2
 enum-known-evaluation-2 c = search needs
 
-refused-book-requires : tie.Need-refused-book-requires
-refused-book-requires c κs = omega (arith, in-table (scoring _ _ _) (answer (c .before .before .before) _ (c .before .evaluation2 .given .1)))
-
-enum-told : tie.Need-enum-told
-enum-told c = search needs
-
-refused-requires : tie.Need-refused-requires
-refused-requires c κs = search needs
+declined-requires : tie.Need-declined-requires
+declined-requires c κs = omega (arith, in-table (scoring _ _ _) (answer (c .before .before .before) _ (c .before .evaluation2 .given .1)))
 
 returns : tie.Need-returns
 unfolding packed scoreValue remainderAfter
@@ -83,14 +77,7 @@ unfolding packed remainderAfter
 returns-2 c =
     let a = c .before .before in
     let told = answer (a .before .before) _ (a .evaluation2 .given .1) in
-    record { number = c .refused-book .ensures ∙ ap (packed scoreValue) told; remainder = ap (remainderAfter _) told }
-
-returns-3 : tie.Need-returns-3
-unfolding packed remainderAfter
-returns-3 c =
-    let a = c .before in
-    let told = answer (a .before .before) _ (a .enum-told .given .1) in
-    record { number = c .refused .ensures ∙ ap (packed scoreValue) told; remainder = ap (remainderAfter _) told }
+    record { number = c .declined .ensures ∙ ap (packed scoreValue) told; remainder = ap (remainderAfter _) told }
 
 pub cerahupo-score-spec : {M : Type 1} → statement M
 cerahupo-score-spec =
@@ -102,9 +89,6 @@ cerahupo-score-spec =
     cast-value
     accepted-requires
     enum-known-evaluation-2
-    refused-book-requires
-    enum-told
-    refused-requires
+    declined-requires
     returns
-    returns-2
-    returns-3)
+    returns-2)

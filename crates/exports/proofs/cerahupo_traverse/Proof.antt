@@ -49,7 +49,7 @@ unfolding packed answersValue
 returns c =
     let a = c .before .before in
     let x = a .before .before .before .before in
-    (c .accepted .ensures ∙ ap (packed answersValue) (answer x _ (a .t .given .1)), x .traverse .ensures .leaving)
+    record { packing = c .accepted .ensures ∙ ap (packed answersValue) (answer x _ (a .t .given .1)); leaving = x .traverse .ensures .leaving }
 
 same-length-2 : tie.Need-same-length-2
 same-length-2 c = search needs
@@ -59,7 +59,7 @@ unfolding packed
 returns-2 c =
     let a = c .before in
     let x = a .before .before .before .before in
-    (c .refused .ensures ∙ ap (packed answersValue) (answer x _ (a .enum-told .given .1)), x .traverse .ensures .leaving)
+    record { packing = c .refused .ensures ∙ ap (packed answersValue) (answer x _ (a .enum-told .given .1)); leaving = x .traverse .ensures .leaving }
 
 same-length-3 : tie.Need-same-length-3
 same-length-3 c = search needs
@@ -69,7 +69,7 @@ unfolding packed
 returns-3 c =
     let a = c .before .before in
     let x = a .before .before .before .before in
-    (c .refused-listing .ensures ∙ ap (packed answersValue) (answer x _ (a .t2 .given .1)), x .traverse .ensures .leaving)
+    record { packing = c .refused-listing .ensures ∙ ap (packed answersValue) (answer x _ (a .t2 .given .1)); leaving = x .traverse .ensures .leaving }
 
 pub cerahupo-traverse-spec : {M : Type 1} → statement M
 cerahupo-traverse-spec =

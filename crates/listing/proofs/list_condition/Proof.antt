@@ -1,6 +1,5 @@
 -- `listing::list_condition`: the records that compiling returns lie in the words.
 use native.Mathlib.Omega.{arith}
-use denote.Ref.{now}
 use borrow.Author.Needs.{needs}
 use Rattle.compiler.proofs.CompiledLaws.{returned-from}
 use Rattle.listing.proofs.list_condition.Statement.{statement}
@@ -10,9 +9,7 @@ print-listing-requires : tie.Need-print-listing-requires
 print-listing-requires c κs =
     let a = c .before .before in
     let r = a .before .before .before .before in
-    let start = r .before .before .before .before .args in
-    let made = returned-from (now (start .bytes)) (start .condition) (now (start .words)) (a .answer .given .0 .0) (r .compile .result) (r .compile .ensures .0) (a .answer .given .1) in
-    omega (arith, made .room)
+    omega (arith, returned-from (r .compile .ensures) (a .answer .given .1) .room)
 
 pub list-condition-spec : {M : Type 1} → statement M
 list-condition-spec =

@@ -1,10 +1,13 @@
--- `score::decide`: the decision, the book's refusal, or no such condition.
-use mathlib.Core.Path.{_≡_, sym, subst, _∙_}
+-- `score::decide`: the decision, or why there is no such condition.
+use mathlib.Core.Bool.{Bool}
+use mathlib.Core.Path.{_≡_, sym, ap, subst, _∙_}
 use borrow.Author.Needs.{needs}
 use denote.Ref.{now}
+use Rattle.answers.specs.Answers.{result}
 use Rattle.book.specs.Asked.{AskedAs}
 use Rattle.book.specs.declared.Asked.{Asked}
-use Rattle.score.proofs.DecisionLaws.{refused-answer, decided-answer}
+use Rattle.book.proofs.AskedLaws.{on-asked}
+use Rattle.score.specs.Decisions.{scoredAnswer}
 use Rattle.score.proofs.decide.Statement.{statement}
 use Rattle.score.proofs.decide.Tie as tie
 
@@ -25,46 +28,26 @@ is-met-requires c κs = let a = c .before .before in arm (a .before .before) _ (
 enum-known-asked-2 : tie.Need-enum-known-asked-2
 enum-known-asked-2 c = search needs
 
-enum-told : tie.Need-enum-told
-enum-told c = search needs
+-- the decision that was made, by the test of it
+decided : (c : tie.After-is-met) (b : Bool) → c .is-met .result ≡ b → let s = c .before .before .before .before .before .before .before .before in
+    result b ≡ scoredAnswer (now (s .args .bytes)) (s .args .condition) (s .args .set)
+unfolding scoredAnswer
+decided c b e =
+    let a = c .before .before .before in
+    let f = arm (a .before .before) _ (a .asked .given .1) in
+    ap (λ (x : Bool). result x) (sym e ∙ c .is-met .ensures (f .kept)) ∙ on-asked _ (f .told)
 
 returns : tie.Need-returns
-returns c =
-    let m = c .before in
-    let a = m .before .before .before in
-    let s = a .before .before .before .before .before in
-    let f = arm (a .before .before) _ (a .asked .given .1) in
-    decided-answer (now (s .args .bytes)) (s .args .condition) (s .args .set) (f .kept .book) (f .kept .condition) (f .told) _ (sym (c .if1 .taken) ∙ m .is-met .ensures (f .kept))
+returns c = decided (c .before) _ (c .if1 .taken)
 
 returns-2 : tie.Need-returns-2
-returns-2 c =
-    let m = c .before in
-    let a = m .before .before .before in
-    let s = a .before .before .before .before .before in
-    let f = arm (a .before .before) _ (a .asked .given .1) in
-    decided-answer (now (s .args .bytes)) (s .args .condition) (s .args .set) (f .kept .book) (f .kept .condition) (f .told) _ (sym (c .if1 .left) ∙ m .is-met .ensures (f .kept))
+returns-2 c = decided (c .before) _ (c .if1 .left)
 
 returns-3 : tie.Need-returns-3
-returns-3 c =
-    let a = c .before in
-    let s = a .before .before .before .before .before in
-    refused-answer (now (s .args .bytes)) (s .args .condition) (s .args .set) _ _ (arm (a .before .before) _ (a .asked2 .given .1))
-
-returns-4 : tie.Need-returns-4
-returns-4 c =
-    let s = c .before .before .before .before .before in
-    refused-answer (now (s .args .bytes)) (s .args .condition) (s .args .set) _ _ (arm (c .before .before) _ (c .enum-told .given .1))
+unfolding scoredAnswer
+returns-3 c = let a = c .before in on-asked _ (arm (a .before .before) _ (a .asked2 .given .1))
 
 pub decide-spec : {M : Type 1} → statement M
 decide-spec =
     tie.close
-    (tie.spec
-    ask-requires
-    enum-known-asked
-    is-met-requires
-    enum-known-asked-2
-    enum-told
-    returns
-    returns-2
-    returns-3
-    returns-4)
+    (tie.spec ask-requires enum-known-asked is-met-requires enum-known-asked-2 returns returns-2 returns-3)

@@ -1,10 +1,14 @@
--- `score::evaluate`: the score, the book's refusal, or no such condition.
-use mathlib.Core.Path.{_≡_, subst}
+-- `score::evaluate`: the score, or why there is no such condition.
+use mathlib.Core.Path.{_≡_, ap, subst, _∙_}
 use borrow.Author.Needs.{needs}
 use denote.Ref.{now}
+use Rattle.answers.specs.Answers.{result}
 use Rattle.book.specs.Asked.{AskedAs}
 use Rattle.book.specs.declared.Asked.{Asked}
-use Rattle.score.proofs.DecisionLaws.{refused-shown, scored-shown}
+use Rattle.book.proofs.AskedLaws.{on-asked}
+use Rattle.score.specs.Shown.{shownAnswer}
+use Rattle.score.specs.declared.exact.Exact.{Exact}
+use Rattle.score.proofs.ShownLaws.{pair-shown}
 use Rattle.score.proofs.evaluate.Statement.{statement}
 use Rattle.score.proofs.evaluate.Tie as tie
 
@@ -25,36 +29,18 @@ expression-score-requires c κs = let a = c .before .before in arm (a .before .b
 enum-known-asked-2 : tie.Need-enum-known-asked-2
 enum-known-asked-2 c = search needs
 
-enum-told : tie.Need-enum-told
-enum-told c = search needs
-
 returns : tie.Need-returns
+unfolding shownAnswer
 returns c =
     let a = c .before .before .before in
-    let s = a .before .before .before .before .before in
     let f = arm (a .before .before) _ (a .asked .given .1) in
-    scored-shown (now (s .args .bytes)) (s .args .condition) (s .args .set) (f .kept .book) (f .kept .condition) (f .told) _ (c .expression-score .ensures (f .kept))
+    ap (λ (x : Exact). result x) (pair-shown _ _ (c .expression-score .ensures (f .kept))) ∙ on-asked _ (f .told)
 
 returns-2 : tie.Need-returns-2
-returns-2 c =
-    let a = c .before in
-    let s = a .before .before .before .before .before in
-    refused-shown (now (s .args .bytes)) (s .args .condition) (s .args .set) _ _ (arm (a .before .before) _ (a .asked2 .given .1))
-
-returns-3 : tie.Need-returns-3
-returns-3 c =
-    let s = c .before .before .before .before .before in
-    refused-shown (now (s .args .bytes)) (s .args .condition) (s .args .set) _ _ (arm (c .before .before) _ (c .enum-told .given .1))
+unfolding shownAnswer
+returns-2 c = let a = c .before in on-asked _ (arm (a .before .before) _ (a .asked2 .given .1))
 
 pub evaluate-spec : {M : Type 1} → statement M
 evaluate-spec =
     tie.close
-    (tie.spec
-    ask-requires
-    enum-known-asked
-    expression-score-requires
-    enum-known-asked-2
-    enum-told
-    returns
-    returns-2
-    returns-3)
+    (tie.spec ask-requires enum-known-asked expression-score-requires enum-known-asked-2 returns returns-2)

@@ -11,9 +11,7 @@ use Rattle.cases.proofs.compiling.compiled_into.Tie as tie
 room : (c : tie.After-answer) → c .answer .given .0 .0 * 4 ≤ length (now (c .before .before .before .before .before .before .before .before .args .words))
 room c =
     let r = c .before .before .before .before in
-    let a = r .before .before .before .before .args in
-    let made = returned-from (now (a .bytes)) (a .condition) (now (a .words)) (c .answer .given .0 .0) (r .compile .result) (r .compile .ensures .0) (c .answer .given .1) in
-    omega (arith, made .room)
+    omega (arith, returned-from (r .compile .ensures) (c .answer .given .1) .room)
 
 mul-end : tie.Need-mul-end
 mul-end c = omega (arith, room (c .before))

@@ -1,17 +1,23 @@
 -- `score::policies::policy_score`: the default, or the operator over the present rules.
 use Prim.Native.Nat.{ℕ, _-_, _^_, _≤_}
+use mathlib.Core.List.{[], _∷_}
+use mathlib.Core.Logic.{inl, inr}
 use mathlib.Core.Path.{_≡_, sym, ap, subst, _∙_}
 use native.Mathlib.Nat.{le-trans, pow-le-pow-right}
 use native.Mathlib.Omega.{arith}
 use borrow.Author.Needs.{needs}
 use lib.IntN.{ℤ, pos, natAbs, _*ℤ_}
+use denote.Enum.Declared.{tagOf}
+use types.Run.{OneOf}
 use mir.Syntax.{w64}
 use mir.Val.{SFits, toZ, ofZ}
 use mir.ValLaws.{toZ-ofZ}
 use Rattle.arith.proofs.Signed.{natural-fits}
 use Rattle.peal.specs.Score.{scaled}
+use Rattle.peal.specs.declared.Operator.{Operator}
+use Rattle.peal.specs.declared.Operator.the-variants.{Mul}
+use Rattle.peal.proofs.Operator.{the-type}
 use Rattle.score.specs.Pairs.{Is}
-use Rattle.score.proofs.PolicyLaws.{applied-min, applied-max, applied-sum}
 use Rattle.score.proofs.RuleLaws.{none-present, whole-score, product-score, product-natural, product-few}
 use Rattle.score.proofs.policies.policy_score.Statement.{statement}
 use Rattle.score.proofs.policies.policy_score.Tie as tie
@@ -69,23 +75,8 @@ cast-of-product c =
 of-product-requires : tie.Need-of-product-requires
 of-product-requires c κs = let n = natural c in (omega (arith, n .2, ap natAbs (n .1)), n .3)
 
-enum-told-2 : tie.Need-enum-told-2
-enum-told-2 c = search needs
-
 whole-requires-2 : tie.Need-whole-requires-2
 whole-requires-2 c κs = search needs
-
-enum-told-3 : tie.Need-enum-told-3
-enum-told-3 c = search needs
-
-whole-requires-3 : tie.Need-whole-requires-3
-whole-requires-3 c κs = search needs
-
-enum-told-4 : tie.Need-enum-told-4
-enum-told-4 c = search needs
-
-whole-requires-4 : tie.Need-whole-requires-4
-whole-requires-4 c κs = search needs
 
 returns-2 : tie.Need-returns-2
 returns-2 c =
@@ -103,41 +94,24 @@ returns-2 c =
     ∙ product-score (s .args .set) q v (r .present-rules .ensures q h) (e .if1 .left) (sym (p .operator-at .ensures q h) ∙ m .enum-told .given .1))
     (c .of-product .ensures)
 
+-- the other three operators
+not-mul : (o : Operator) → OneOf (0 ∷ 1 ∷ 2 ∷ []) (tagOf the-type o) → o ≡ Mul → ⊥
+not-mul o (inl h) e = omega (arith, ap (tagOf the-type) e)
+not-mul o (inr (inl h)) e = omega (arith, ap (tagOf the-type) e)
+not-mul o (inr (inr h)) e = omega (arith, ap (tagOf the-type) e)
+
 returns-3 : tie.Need-returns-3
 returns-3 c =
-    let m = c .before in
-    let p = m .before .before in
+    let p = c .before .before in
     let e = p .before in
     let r = e .before .before in
     let s = r .before in
     λ q h.
     subst (Is (c .whole2 .result))
-    (ap scaled (value-back (e .before)) ∙ whole-score (s .args .set) q (r .present-rules .result) (r .present-rules .ensures q h) (e .if1 .left) _ (sym (p .operator-at .ensures q h) ∙ m .enum-told2 .given .1) applied-min)
+    (ap scaled (value-back (e .before))
+    ∙ whole-score (s .args .set) q (r .present-rules .result) (r .present-rules .ensures q h) (e .if1 .left)
+    (λ m. not-mul _ (c .before .match .keys2) (p .operator-at .ensures q h ∙ m)))
     (c .whole2 .ensures)
-
-returns-4 : tie.Need-returns-4
-returns-4 c =
-    let m = c .before in
-    let p = m .before .before in
-    let e = p .before in
-    let r = e .before .before in
-    let s = r .before in
-    λ q h.
-    subst (Is (c .whole3 .result))
-    (ap scaled (value-back (e .before)) ∙ whole-score (s .args .set) q (r .present-rules .result) (r .present-rules .ensures q h) (e .if1 .left) _ (sym (p .operator-at .ensures q h) ∙ m .enum-told3 .given .1) applied-max)
-    (c .whole3 .ensures)
-
-returns-5 : tie.Need-returns-5
-returns-5 c =
-    let m = c .before in
-    let p = m .before .before in
-    let e = p .before in
-    let r = e .before .before in
-    let s = r .before in
-    λ q h.
-    subst (Is (c .whole4 .result))
-    (ap scaled (value-back (e .before)) ∙ whole-score (s .args .set) q (r .present-rules .result) (r .present-rules .ensures q h) (e .if1 .left) _ (sym (p .operator-at .ensures q h) ∙ m .enum-told4 .given .1) applied-sum)
-    (c .whole4 .ensures)
 
 pub policy-score-spec : {M : Type 1} → statement M
 policy-score-spec =
@@ -150,13 +124,6 @@ policy-score-spec =
     enum-told
     cast-of-product
     of-product-requires
-    enum-told-2
     whole-requires-2
-    enum-told-3
-    whole-requires-3
-    enum-told-4
-    whole-requires-4
     returns-2
-    returns-3
-    returns-4
-    returns-5)
+    returns-3)

@@ -20,11 +20,11 @@ use Rattle.score.proofs.policies.present_rules.Statement.{statement}
 use Rattle.score.proofs.policies.present_rules.Tie as tie
 
 abbrev Inv-loop : tie.InvT-loop
-Inv-loop cells k set o d so₀ i₀ so i =
+Inv-loop cells k set operator default so₀ i₀ so i =
     (q : Policy) → PolicyCells cells k q → (i ≤ length (q .rules)) × (so ≡ presentOf q (presentRules set (drop i (q .rules))))
 
 abbrev μ-loop : tie.MeasureT-loop
-μ-loop cells k set o d so₀ i₀ so i = i
+μ-loop cells k set operator default so₀ i₀ so i = i
 
 operator-at-requires : tie.Need-operator-at-requires Inv-loop μ-loop
 operator-at-requires c κs = c .pre
@@ -63,24 +63,24 @@ rule-score-requires c κs =
     let h = start l .pre in
     (h, omega (arith, l .loop .inv (h .policy) (h .held) .0, c .loop-test .taken))
 
-enum-known-s : tie.Need-enum-known-s Inv-loop μ-loop
-enum-known-s c = search needs
+enum-known-scored : tie.Need-enum-known-scored Inv-loop μ-loop
+enum-known-scored c = search needs
 
 -- the rules present with rule i - 1, which counts v
 counted : (c : tie.After-known-told Inv-loop μ-loop) →
     let m = c .before .before in
     let l = m .before .before .before in
     (q : Policy) → PolicyCells (now (start l .args .cells)) (start l .args .k) q
-    → withScore (l .before .before .before .operator-at .result) (l .loop .so) (toZ w64 (ofZ w64 (c .before .s .given .0 .0)))
+    → withScore (l .before .before .before .operator-at .result) (l .loop .so) (toZ w64 (ofZ w64 (c .before .scored .given .0 .0)))
     ≡ presentOf q (presentRules (start l .args .set) (drop (l .loop .i - 1) (q .rules)))
 counted c q e =
     let m = c .before .before in
     let l = m .before .before .before in
-    let z : toZ w64 (ofZ w64 (c .before .s .given .0 .0)) ≡ c .before .s .given .0 .0 = search needs in
+    let z : toZ w64 (ofZ w64 (c .before .scored .given .0 .0)) ≡ c .before .scored .given .0 .0 = search needs in
     ap (withScore (l .before .before .before .operator-at .result) (l .loop .so)) z
     ∙ turn-present q (start l .args .set) (l .loop .i) (m .before .before .loop-test .taken) (l .loop .inv q e .0) (l .loop .so) (l .loop .inv q e .1)
     (l .before .before .before .operator-at .result) (l .before .before .before .operator-at .ensures q e)
-    (c .before .s .given .0 .0) (ap scoredMeaning (sym (c .before .s .given .1)) ∙ m .before .rule-score .ensures q e)
+    (c .before .scored .given .0 .0) (ap scoredMeaning (sym (c .before .scored .given .1)) ∙ m .before .rule-score .ensures q e)
 
 with-score-requires : tie.Need-with-score-requires Inv-loop μ-loop
 with-score-requires c κs =
@@ -136,7 +136,7 @@ present-rules-spec =
     loop-holds
     sub-i
     rule-score-requires
-    enum-known-s
+    enum-known-scored
     with-score-requires
     loop-less
     loop-again
