@@ -5,14 +5,14 @@ use mathlib.Core.Path.{_≡_}
 use lib.IntN.{ℤ, pos}
 use lib.ListN.{length, getD}
 use Rattle.arith.specs.Lists.{padded}
-use Rattle.peal.specs.Policies.{Rule, Policy, Exclusion, Condition, Book, noRule, noExclusion, policyAt, maskOf}
+use Rattle.peal.specs.Policies.{Rule, Policy, Expression, Exclusion, Condition, Book, noRule, noExclusion, policyAt, maskOf}
 use Rattle.peal.specs.declared.Operator.{Operator}
 use Rattle.peal.specs.declared.Operator.the-variants.{Min, Max, Sum, Mul}
 use Rattle.peal.specs.declared.Sense.{Sense}
 use Rattle.peal.specs.declared.Sense.the-variants.{Above, AtMost}
 use Rattle.answers.specs.Answers.{result}
-use Rattle.book.specs.Books.{conditionAt}
-use Rattle.text.specs.Codes.{codesOf}
+use Rattle.book.specs.Books.{read, conditionAt}
+use Rattle.text.specs.Codes.{codesOf, HoldsCodes}
 use Rattle.book.specs.declared.cells.Policy.{Policy as StoredPolicy}
 
 -- the number of an operator, and of a sense
@@ -98,6 +98,10 @@ pub record ExclusionCells (cells : List ℤ) (xs : List Exclusion) : Type 0 wher
 abbrev pub ForExclusions : List ℤ → (List Exclusion → Type 0) → Type 0
 ForExclusions cells P = (xs : List Exclusion) → ExclusionCells cells xs → P xs
 
+-- so it is for each expression whose codes are the first so many
+abbrev pub ForExpression : List ℕ → ℕ → (Expression → Type 0) → Type 0
+ForExpression codes count P = (e : Expression) → HoldsCodes codes count e → P e
+
 -- how many cells there are: 16 policies, 8 conditions and 16 exclusions have room
 abbrev pub cellCount : ℕ
 cellCount = 881
@@ -107,6 +111,10 @@ pub record BookCells (cells : List ℤ) (b : Book) : Type 0 where
   pub policies : (k : ℕ) → k < length (b .policies) → PolicyCells cells k (policyAt (b .policies) k)
   pub exclusions : ExclusionCells cells (b .exclusions)
   pub conditions : (k : ℕ) (c : Condition) → conditionAt (b .conditions) k ≡ result c → ConditionCells cells k c
+
+-- where a book's bytes are read, the cells are those of the book
+abbrev pub ReadInto : List ℕ → List ℤ → Type 0
+ReadInto bytes cells = (b : Book) → read bytes ≡ result b → BookCells cells b
 
 -- a policy by value: its rules as two arrays of 16, with zeros after them
 unfoldable pub storedPolicy : Policy → StoredPolicy

@@ -30,15 +30,6 @@ ghost use Rattle.book.specs.Acceptance.{emptyBook, withRule, withPolicie
 ghost use Rattle.book.specs.Cells.{operatorCode, senseCode, BookCells};
 ghost use Rattle.book.specs.Ranges.{PolicyKept, ExclusionsKept, BookInRange};
 
-// What the lines so far leave for the next one, beside the cells: whether the line above is a `p` or an `r`, the counts, and
-// whether the first line is an `o`.
-pub struct SoFar {
-    pub inside: bool,
-    pub opened: usize,
-    pub asked: usize,
-    pub old: bool,
-}
-
 fn operator_code(o: peal::Operator) -> i32
     ensures { λ r. ⌜ r ≡ operatorCode o ⌝ }
 {
