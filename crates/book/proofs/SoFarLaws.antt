@@ -49,7 +49,7 @@ module _ {state : SoFar} {cells : List ℤ} {so : BookSoFar} (h : Holds state ce
     last-kept =
         record {
           policy = lastPolicy (so .book);
-          inside = omega (arith, policies-is so (h .left), h .bounded .range .policiesRoom, some-policy);
+          below = omega (arith, policies-is so (h .left), h .bounded .range .policiesRoom, some-policy);
           held = last-cells;
           range = last-range;
         }

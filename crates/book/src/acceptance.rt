@@ -1,6 +1,7 @@
 // The acceptance of a line that has a form, in the order 3 to 6.
 // For this crate only: no other can name these functions, and each call is proved to meet its condition.
 use crate::Reason;
+use crate::cells::CODE_COUNT;
 use crate::cells::Cells;
 use crate::cells::count_at;
 use crate::cells::exclusion_count;
@@ -39,7 +40,7 @@ pub enum Verdict {
 }
 
 // Each policy that the expression mentions is one of the first so many.
-fn mentions_below(codes: &[u32; 31], count: usize, policies: u32) -> bool
+fn mentions_below(codes: &[u32; CODE_COUNT], count: usize, policies: u32) -> bool
     requires { ⌜ (count ≤ 31) × (policies ≤ 16) ⌝ }
     ensures { λ r. ⌜ ForExpression (now (codes .entry)) count (λ e. r ≡ mentionsBelow policies e) ⌝ }
 {
@@ -122,7 +123,12 @@ pub fn judge_rule(cells: &Cells, state: SoFar, signal: u32, score: i32) -> Verdi
 }
 
 // The first `count` codes are those of the condition's expression.
-pub fn judge_condition(state: SoFar, threshold: i32, codes: &[u32; 31], count: usize) -> Verdict
+pub fn judge_condition(
+    state: SoFar,
+    threshold: i32,
+    codes: &[u32; CODE_COUNT],
+    count: usize,
+) -> Verdict
     requires { ⌜ (state .policies ≤ 16) × (count ≤ 31) ⌝ }
     ensures { λ r. ⌜ ConditionJudged state threshold (now (codes .entry)) count r ⌝ }
 {

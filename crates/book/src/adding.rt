@@ -7,6 +7,7 @@ use crate::acceptance::judge_condition;
 use crate::acceptance::judge_exclusion;
 use crate::acceptance::judge_policy;
 use crate::acceptance::judge_rule;
+use crate::cells::CODE_COUNT;
 use crate::cells::Cells;
 use crate::storing::put_condition;
 use crate::storing::put_exclusion;
@@ -116,7 +117,7 @@ fn add_condition(
     state: SoFar,
     sense: peal::Sense,
     threshold: i32,
-    codes: &[u32; 31],
+    codes: &[u32; CODE_COUNT],
     count: usize,
 ) -> Step
     requires { ⌜ CanAddCondition state (now cells) (now codes) count ⌝ }
@@ -156,7 +157,7 @@ fn add_form(cells: &mut Cells, state: SoFar, line: &[u8], top: bool, form: Line)
             threshold,
             start,
         } => {
-            let mut codes = [0u32; 31];
+            let mut codes = [0u32; CODE_COUNT];
             let parse = read_expression(line, start, &mut codes);
             if !parse.ok {
                 return Step::Refused(Reason::NoForm);

@@ -1,12 +1,13 @@
 // Policies, rules, exclusions and conditions put into the cells of the book so far (module `cells` tells which).
 // For this crate only: no other can name these functions, and each call is proved to meet its condition.
 // They write to the cells as a slice, `all`: with it the proof is told how many cells there are.
+use crate::cells::CODE_COUNT;
 use crate::cells::CODES;
 use crate::cells::CONDITION_CELLS;
 use crate::cells::COUNT;
 use crate::cells::Cells;
 use crate::cells::DEFAULT;
-use crate::cells::EXCLUSION_COUNT_CELL;
+use crate::cells::EXCLUSIONS;
 use crate::cells::FIRSTS;
 use crate::cells::LENGTH;
 use crate::cells::MASK;
@@ -55,7 +56,7 @@ pub fn put_nothing(cells: &mut Cells)
     ensures { λ r. ⌜ BookCells (now (cells .exit)) emptyBook ⌝ }
 {
     let all: &mut [i32] = cells;
-    all[EXCLUSION_COUNT_CELL] = 0;
+    all[EXCLUSIONS] = 0;
 }
 
 // Policy k, the next one, with no rules.
@@ -98,7 +99,7 @@ pub fn put_exclusion(cells: &mut Cells, first: u32, second: u32)
     let all: &mut [i32] = cells;
     all[FIRSTS + n] = first as i32;
     all[SECONDS + n] = second as i32;
-    all[EXCLUSION_COUNT_CELL] = n as i32 + 1;
+    all[EXCLUSIONS] = n as i32 + 1;
 }
 
 // Condition k, the next one: the first n codes are those of its expression.
@@ -107,7 +108,7 @@ pub fn put_condition(
     k: usize,
     sense: peal::Sense,
     threshold: i32,
-    codes: &[u32; 31],
+    codes: &[u32; CODE_COUNT],
     n: usize,
 )
     requires { ⌜ (k < 8) × (n ≤ 31) × ((e : Expression) × HoldsCodes (now codes) n e × (mentionsBelow 16 e ≡ true)) ⌝ }
