@@ -166,7 +166,7 @@ module _ {cells : List ℤ} {k : ℕ} (h : ConditionKept cells k) (i : ℕ) (l :
   mention-kept =
       record {
         policy = policyAt (h .book .policies) (code - 2);
-        inside = omega (arith, mention-inside, h .range .policiesRoom);
+        below = omega (arith, mention-inside, h .range .policiesRoom);
         held = mention-held;
         range = policy-in-range (h .book) (h .range) (code - 2) mention-inside;
       }

@@ -25,8 +25,6 @@ use Rattle.book.specs.Acceptance.{BookSoFar, lastPolicy, noCondition, in
 use Rattle.book.specs.Ranges.{signalsOf}
 use Rattle.text.specs.Codes.{HoldsCodes}
 use Rattle.book.specs.Judged.{after}
-use Rattle.book.specs.declared.Reason.{Reason}
-use Rattle.book.specs.declared.acceptance.Verdict.the-variants.{Fine, Refused}
 
 -- ---- the tests in their order
 
@@ -50,10 +48,6 @@ module _ (n : ℕ) (so : BookSoFar) (f : Form) where
   pub accept-fine : inPlace n so f ≡ true → inCount so f ≡ true → inRange so f ≡ true → isNew so f ≡ true → result (after so f) ≡ accept n so f
   unfolding accept after
   accept-fine a b c d = rw (a, b, c, d)
-
--- a refusal is not fine
-pub not-fine : {X : Type 0} {r : Reason} → Refused r ≡ Fine → X
-not-fine h = let z : _≡_ {A = ℕ} 0 1 = cc in absurd (omega arith)
 
 -- ---- before the first condition
 

@@ -16,7 +16,7 @@ use Rattle.peal.specs.declared.Operator.the-variants.{Min, Max, Sum, Mul}
 use Rattle.limits.specs.Limits.{bookFits, lineFits, within}
 use Rattle.text.specs.Text.{bytes, Line, longer, parted, textLines}
 use Rattle.text.specs.Forms.{Form, oldZero, policy, rule, exclusion, condition, form}
-use Rattle.book.specs.Acceptance.{BookSoFar, noLine, inPlace, inCount, inRange, isNew, defaultInRange, missingDefault, defaultOf, bookWith, opensRules, oldAfter, accept}
+use Rattle.book.specs.Acceptance.{BookSoFar, noLine, inPlace, inCount, inRange, isNew, defaultInRange, missingDefault, defaultOf, bookWith, opensRules, oldZeroAfter, accept}
 use Rattle.book.specs.Books.{acceptForm, readLine, readLines, read}
 use Rattle.book.specs.Judged.{after}
 use Rattle.book.specs.OldBooks.{readBefore, NoLineOf, AllGiven, lineBelow, bareLine, zeroLine, ZerosWritten, OldBooks}
@@ -28,7 +28,7 @@ use Rattle.book.proofs.ReadLaws.{read-lines}
 
 -- the book so far, as it was read before
 older : BookSoFar → BookSoFar
-older so = record { book = so .book; inRules = so .inRules; old = true }
+older so = record { book = so .book; inRules = so .inRules; oldZero = true }
 
 -- ---- an `o` on top: every line is one further down
 
@@ -127,9 +127,9 @@ older-tests n so f =
 
 older-accept : (n : ℕ) (so : BookSoFar) (f : Form) → (f ≡ policy Min none → ⊥) → (f ≡ policy Mul none → ⊥)
     → accept n (older so) f ≡ onResult (accept n so f) (λ next. result (older next))
-unfolding accept after inPlace inCount inRange isNew bookWith opensRules oldAfter older
+unfolding accept after inPlace inCount inRange isNew bookWith opensRules oldZeroAfter older
 older-accept n so oldZero p q = older-tests n so oldZero
-older-accept n so (policy o d) p q = rw (same-default (so .old) o d p q) (older-tests n so (policy o d))
+older-accept n so (policy o d) p q = rw (same-default (so .oldZero) o d p q) (older-tests n so (policy o d))
 older-accept n so (rule s v) p q = older-tests n so (rule s v)
 older-accept n so (exclusion a b) p q = older-tests n so (exclusion a b)
 older-accept n so (condition c t e) p q = older-tests n so (condition c t e)
@@ -167,9 +167,9 @@ unchanged s g = ap (require (bookFits (length s)) 1 0) (sym (older-lines 1 noLin
 -- ---- the 0 of a missing default written
 
 -- on a book so far that is read as before
-module _ (n : ℕ) (so : BookSoFar) (old : so .old ≡ true) where
+module _ (n : ℕ) (so : BookSoFar) (old : so .oldZero ≡ true) where
   zero-accept : (o : Operator) → accept n so (policy o (some (pos 0))) ≡ accept n so (policy o none)
-  unfolding accept inPlace inCount inRange isNew bookWith opensRules oldAfter missingDefault defaultOf defaultInRange within
+  unfolding accept inPlace inCount inRange isNew bookWith opensRules oldZeroAfter missingDefault defaultOf defaultInRange within
   zero-accept o = rw old
 
   zero-line : (o : Operator) → readLine n so (zeroLine o) ≡ readLine n so (bareLine o)
@@ -179,25 +179,25 @@ module _ (n : ℕ) (so : BookSoFar) (old : so .old ≡ true) where
   zero-line Sum = zero-accept Sum
   zero-line Mul = zero-accept Mul
 
-  old-after : (f : Form) → after so f .old ≡ true
-  unfolding after oldAfter
+  old-after : (f : Form) → after so f .oldZero ≡ true
+  unfolding after oldZeroAfter
   old-after oldZero = refl
   old-after (policy o d) = old
   old-after (rule s v) = old
   old-after (exclusion a b) = old
   old-after (condition c t e) = old
 
-  accept-old : (f : Form) (next : BookSoFar) → accept n so f ≡ result next → next .old ≡ true
+  accept-old : (f : Form) (next : BookSoFar) → accept n so f ≡ result next → next .oldZero ≡ true
   accept-old f next h =
       let p = passed n so next f h in
-      sym (ap (λ (x : BookSoFar). x .old) (result-is (accept-fine n so f (p .place) (p .count) (p .range) (p .new) ∙ h))) ∙ old-after f
+      sym (ap (λ (x : BookSoFar). x .oldZero) (result-is (accept-fine n so f (p .place) (p .count) (p .range) (p .new) ∙ h))) ∙ old-after f
 
-  form-old : (o : Option Form) (next : BookSoFar) → acceptForm n so o ≡ result next → next .old ≡ true
+  form-old : (o : Option Form) (next : BookSoFar) → acceptForm n so o ≡ result next → next .oldZero ≡ true
   unfolding acceptForm
   form-old none next h = no-refusal (sym h)
   form-old (some f) next h = accept-old f next h
 
-  line-old : (l : Line) (next : BookSoFar) → readLine n so l ≡ result next → next .old ≡ true
+  line-old : (l : Line) (next : BookSoFar) → readLine n so l ≡ result next → next .oldZero ≡ true
   unfolding readLine
   line-old l next h =
       let short = required (lineFits (length (l .text))) 1 n _ next h in
@@ -207,7 +207,7 @@ then-alike : {A B : Type 0} (a : Answer A) (f g : A → Answer B) → ((x : A) �
 then-alike (result x) f g h = h x refl
 then-alike (refused k v) f g h = refl
 
-zero-lines : (n : ℕ) (so : BookSoFar) (ls ms : List Line) → so .old ≡ true → ZerosWritten ls ms → readLines n so ms ≡ readLines n so ls
+zero-lines : (n : ℕ) (so : BookSoFar) (ls ms : List Line) → so .oldZero ≡ true → ZerosWritten ls ms → readLines n so ms ≡ readLines n so ls
 unfolding readLines
 zero-lines n so [] [] old w = refl
 zero-lines n so [] (m ∷ ms) old w = absurd w

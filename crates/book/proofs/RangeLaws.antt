@@ -28,7 +28,7 @@ use Rattle.book.specs.Acceptance.{BookSoFar, noLine, emptyBook, lastPoli
 use Rattle.book.specs.Books.{acceptForm, readLine, readLines, read}
 use Rattle.book.specs.Ranges.{signalsOf, PolicyInRange, ExclusionInRange, ConditionInRange, BookInRange}
 use Rattle.book.specs.Judged.{after}
-use Rattle.book.specs.Taken.{Bounded}
+use Rattle.book.specs.SoFar.{Bounded}
 use Rattle.text.proofs.FormMentions.{FewMentions, form-mentions}
 use Rattle.book.proofs.JudgeLaws.{accept-fine}
 
@@ -200,10 +200,10 @@ module _ (so : BookSoFar) (b : Bounded so) where
   unfolding after bookWith opensRules inPlace inCount inRange withPolicies withLast
   bounded-after n oldZero p few = record { range = b .range; some = λ h. clash h refl }
   bounded-after n (policy o d) p few =
-      let q : Policy = record { operator = o; default = defaultOf (so .old) o d; rules = [] } in
+      let q : Policy = record { operator = o; default = defaultOf (so .oldZero) o d; rules = [] } in
       let empty = eqb-true (length (so .book .conditions)) 0 (p .place) in
       let room = ltb-true (length (so .book .policies)) 16 (p .count) in
-      record { range = policy-added (so .book) (b .range) q empty room (new-in-range (so .old) o d (p .range)); some = λ _. omega (arith, length-append (so .book .policies) (q ∷ [])) }
+      record { range = policy-added (so .book) (b .range) q empty room (new-in-range (so .oldZero) o d (p .range)); some = λ _. omega (arith, length-append (so .book .policies) (q ∷ [])) }
   bounded-after n (rule s v) p few =
       let same = length-set (so .book .policies) (length (so .book .policies) - 1) (changed so s v) in
       record { range = last-changed (so .book) (b .range) (changed so s v) (changed-in-range n s v p); some = λ _. omega (arith, rule-some n s v p) }
@@ -215,7 +215,7 @@ module _ (so : BookSoFar) (b : Bounded so) where
       let room = ltb-true (length (so .book .conditions)) 8 (p .count) in
       record { range = condition-added (so .book) (b .range) k room (condition-in-range (length (so .book .policies)) k (p .range) few); some = λ h. clash h refl }
 
-pub accept-bounded : (n : ℕ) (so next : BookSoFar) (f : Form) → Bounded so → FewMentions f → accept n so f ≡ result next → Bounded next
+accept-bounded : (n : ℕ) (so next : BookSoFar) (f : Form) → Bounded so → FewMentions f → accept n so f ≡ result next → Bounded next
 accept-bounded n so next f b few h =
     let p = passed n so next f h in
     subst Bounded (result-is (accept-fine n so f (p .place) (p .count) (p .range) (p .new) ∙ h)) (bounded-after so b n f p few)
@@ -227,7 +227,7 @@ unfolding acceptForm
 form-bounded n so next none b few h = no-refusal (sym h)
 form-bounded n so next (some f) b few h = accept-bounded n so next f b few h
 
-line-bounded : (n : ℕ) (so next : BookSoFar) (l : Line) → Bounded so → readLine n so l ≡ result next → Bounded next
+pub line-bounded : (n : ℕ) (so next : BookSoFar) (l : Line) → Bounded so → readLine n so l ≡ result next → Bounded next
 unfolding readLine
 line-bounded n so next l b h =
     let short = required (leb (length (l .text)) 128) 1 n _ next h in

@@ -20,7 +20,7 @@ use Rattle.text.specs.Forms.{Form, oldZero, policy, rule, exclusion, condition}
 pub record BookSoFar : Type 0 where
   pub book : Book
   pub inRules : Bool
-  pub old : Bool
+  pub oldZero : Bool
 
 -- the book with nothing in it
 unfoldable pub emptyBook : Book
@@ -28,7 +28,7 @@ emptyBook = record { policies = []; exclusions = []; conditions = [] }
 
 -- before the first line
 unfoldable pub noLine : BookSoFar
-noLine = record { book = emptyBook; inRules = false; old = false }
+noLine = record { book = emptyBook; inRules = false; oldZero = false }
 
 -- the policy that a rule is added to, the last one
 unfoldable pub lastPolicy : Book → Policy
@@ -36,23 +36,23 @@ lastPolicy b = policyAt (b .policies) (length (b .policies) - 1)
 
 -- no `c` stands above
 abbrev pub noCondition : BookSoFar → Bool
-noCondition so = eqb (length (so .book .conditions)) 0
+noCondition soFar = eqb (length (soFar .book .conditions)) 0
 
 -- 3: `o` only as line 1; `p` and `x` only before the first `c`; `r` only directly after a `p` or `r`
 unfoldable pub inPlace : ℕ → BookSoFar → Form → Bool
-inPlace n so oldZero = eqb n 1
-inPlace n so (policy op d) = noCondition so
-inPlace n so (rule s v) = so .inRules
-inPlace n so (exclusion a b) = noCondition so
-inPlace n so (condition c t e) = true
+inPlace n soFar oldZero = eqb n 1
+inPlace n soFar (policy op d) = noCondition soFar
+inPlace n soFar (rule s v) = soFar .inRules
+inPlace n soFar (exclusion a b) = noCondition soFar
+inPlace n soFar (condition c t e) = true
 
 -- 4: at most 16 policies, 8 conditions, 8 rules in a mul policy, 16 exclusions
 unfoldable pub inCount : BookSoFar → Form → Bool
-inCount so oldZero = true
-inCount so (policy op d) = roomForPolicy (length (so .book .policies))
-inCount so (rule s v) = roomForRule (lastPolicy (so .book) .operator) (length (lastPolicy (so .book) .rules))
-inCount so (exclusion a b) = roomForExclusion (length (so .book .exclusions))
-inCount so (condition c t e) = roomForCondition (length (so .book .conditions))
+inCount soFar oldZero = true
+inCount soFar (policy op d) = roomForPolicy (length (soFar .book .policies))
+inCount soFar (rule s v) = roomForRule (lastPolicy (soFar .book) .operator) (length (lastPolicy (soFar .book) .rules))
+inCount soFar (exclusion a b) = roomForExclusion (length (soFar .book .exclusions))
+inCount soFar (condition c t e) = roomForCondition (length (soFar .book .conditions))
 
 -- each policy mentioned is one of the first n
 unfoldable pub mentionsBelow : ℕ → Expression → Bool
@@ -60,11 +60,11 @@ mentionsBelow n e = treeValue (λ (m : MinMax) a b. a && b) (λ m. ltb m n) e
 
 -- 5: numbers in range; S, A and B are 0 to 15, and A is not B; T is −200,000 to 200,000; a policy number belongs to a policy above
 unfoldable pub inRange : BookSoFar → Form → Bool
-inRange so oldZero = true
-inRange so (policy op d) = defaultInRange d
-inRange so (rule s v) = signalInRange s && scoreInRange (lastPolicy (so .book) .operator) v
-inRange so (exclusion a b) = exclusionInRange a b
-inRange so (condition c t e) = thresholdInRange t && mentionsBelow (length (so .book .policies)) e
+inRange soFar oldZero = true
+inRange soFar (policy op d) = defaultInRange d
+inRange soFar (rule s v) = signalInRange s && scoreInRange (lastPolicy (soFar .book) .operator) v
+inRange soFar (exclusion a b) = exclusionInRange a b
+inRange soFar (condition c t e) = thresholdInRange t && mentionsBelow (length (soFar .book .policies)) e
 
 -- an exclusion has these two signals, in either order
 unfoldable pub excludes : (a b : ℕ) → Exclusion → Bool
@@ -72,11 +72,11 @@ excludes a b x = (eqb (x .first) a && eqb (x .second) b) || (eqb (x .first) b &&
 
 -- 6: a signal occurs at most once in a policy, and a pair at most once in the book
 unfoldable pub isNew : BookSoFar → Form → Bool
-isNew so oldZero = true
-isNew so (policy op d) = true
-isNew so (rule s v) = not (any (λ (q : Rule). eqb (q .signal) s) (lastPolicy (so .book) .rules))
-isNew so (exclusion a b) = not (any (excludes a b) (so .book .exclusions))
-isNew so (condition c t e) = true
+isNew soFar oldZero = true
+isNew soFar (policy op d) = true
+isNew soFar (rule s v) = not (any (λ (q : Rule). eqb (q .signal) s) (lastPolicy (soFar .book) .rules))
+isNew soFar (exclusion a b) = not (any (excludes a b) (soFar .book .exclusions))
+isNew soFar (condition c t e) = true
 
 -- `p OP` alone: D is 100 for `min` and `mul`, 0 for `max` and `sum`; in a book whose first line is `o` it is 0 for all four
 unfoldable pub missingDefault : Bool → Operator → ℤ
@@ -113,13 +113,13 @@ withCondition b c = record { policies = b .policies; exclusions = b .exclusions;
 
 -- the book with the line added: a policy, an exclusion or a condition at the end, a rule in the last policy; an `o` adds nothing
 unfoldable pub bookWith : BookSoFar → Form → Book
-bookWith so oldZero = so .book
-bookWith so (policy op d) =
-    withPolicies (so .book)
-    (so .book .policies ++ (record { operator = op; default = defaultOf (so .old) op d; rules = [] } ∷ []))
-bookWith so (rule s v) = withLast (so .book) (withRule (lastPolicy (so .book)) (record { signal = s; score = v }))
-bookWith so (exclusion a b) = withExclusion (so .book) (record { first = a; second = b })
-bookWith so (condition c t e) = withCondition (so .book) (record { sense = c; threshold = t; expression = e })
+bookWith soFar oldZero = soFar .book
+bookWith soFar (policy op d) =
+    withPolicies (soFar .book)
+    (soFar .book .policies ++ (record { operator = op; default = defaultOf (soFar .oldZero) op d; rules = [] } ∷ []))
+bookWith soFar (rule s v) = withLast (soFar .book) (withRule (lastPolicy (soFar .book)) (record { signal = s; score = v }))
+bookWith soFar (exclusion a b) = withExclusion (soFar .book) (record { first = a; second = b })
+bookWith soFar (condition c t e) = withCondition (soFar .book) (record { sense = c; threshold = t; expression = e })
 
 -- an `r` may follow a `p` or an `r`
 unfoldable pub opensRules : Form → Bool
@@ -130,18 +130,18 @@ opensRules (exclusion a b) = false
 opensRules (condition c t e) = false
 
 -- whether the first line is an `o`, with the line added: an `o` in place is that line, and no other changes it
-unfoldable pub oldAfter : BookSoFar → Form → Bool
-oldAfter so oldZero = true
-oldAfter so (policy op d) = so .old
-oldAfter so (rule s v) = so .old
-oldAfter so (exclusion a b) = so .old
-oldAfter so (condition c t e) = so .old
+unfoldable pub oldZeroAfter : BookSoFar → Form → Bool
+oldZeroAfter soFar oldZero = true
+oldZeroAfter soFar (policy op d) = soFar .oldZero
+oldZeroAfter soFar (rule s v) = soFar .oldZero
+oldZeroAfter soFar (exclusion a b) = soFar .oldZero
+oldZeroAfter soFar (condition c t e) = soFar .oldZero
 
 -- line n of this form: tried in the order 3 to 6, then added
 unfoldable pub accept : ℕ → BookSoFar → Form → Answer BookSoFar
-accept n so f =
-    require (inPlace n so f) 3 n
-    (require (inCount so f) 4 n
-    (require (inRange so f) 5 n
-    (require (isNew so f) 6 n
-    (result (record { book = bookWith so f; inRules = opensRules f; old = oldAfter so f })))))
+accept n soFar f =
+    require (inPlace n soFar f) 3 n
+    (require (inCount soFar f) 4 n
+    (require (inRange soFar f) 5 n
+    (require (isNew soFar f) 6 n
+    (result (record { book = bookWith soFar f; inRules = opensRules f; oldZero = oldZeroAfter soFar f })))))

@@ -12,20 +12,20 @@ use Rattle.book.specs.Acceptance.{BookSoFar, noLine, accept}
 
 -- line n by its form: 2 where it has none, then 3 to 6
 unfoldable pub acceptForm : ℕ → BookSoFar → Option Form → Answer BookSoFar
-acceptForm n so none = refused 2 n
-acceptForm n so (some f) = accept n so f
+acceptForm n soFar none = refused 2 n
+acceptForm n soFar (some f) = accept n soFar f
 
 -- line n: 1 where it is over 128 bytes, 2 where it has no end or no form, then 3 to 6
 unfoldable pub readLine : ℕ → BookSoFar → Line → Answer BookSoFar
-readLine n so l =
+readLine n soFar l =
     require (lineFits (length (l .text))) 1 n
     (require (l .ended) 2 n
-    (acceptForm n so (form (l .text))))
+    (acceptForm n soFar (form (l .text))))
 
 -- the lines from the top, of which the first is line n
 unfoldable pub readLines : ℕ → BookSoFar → List Line → Answer Book
-readLines n so [] = result (so .book)
-readLines n so (l ∷ ls) = onResult (readLine n so l) (λ next. readLines (n + 1) next ls)
+readLines n soFar [] = result (soFar .book)
+readLines n soFar (l ∷ ls) = onResult (readLine n soFar l) (λ next. readLines (n + 1) next ls)
 
 -- the book's bytes: 1 with line 0 where they are over 8,192, then the lines
 unfoldable pub read : List ℕ → Answer Book

@@ -21,7 +21,7 @@ use Rattle.book.specs.Books.{readLines, read}
 unfoldable pub readBefore : List ℕ → Answer Book
 readBefore s =
     require (bookFits (length s)) 1 0
-    (readLines 1 (record { book = emptyBook; inRules = false; old = true }) (textLines s))
+    (readLines 1 (record { book = emptyBook; inRules = false; oldZero = true }) (textLines s))
 
 -- no line has this form
 abbrev pub NoLineOf : Form → List Line → Type 0

@@ -10,6 +10,7 @@ use Rattle.answers.specs.Answers.{result}
 use Rattle.arith.specs.Trees.{leafCount}
 use Rattle.peal.specs.Policies.{Rule, Policy, Exclusion, Condition, Book}
 use Rattle.peal.specs.declared.Operator.the-variants.{Mul}
+use Rattle.text.specs.Codes.{codesOf}
 use Rattle.book.specs.Acceptance.{within, scoreInRange, mentionsBelow}
 use Rattle.book.specs.Books.{conditionAt}
 use Rattle.book.specs.Cells.{PolicyCells, ExclusionCells, BookCells, storedPolicy}
@@ -51,7 +52,7 @@ pub record BookInRange (b : Book) : Type 0 where
 -- the cells of policy k are those of a policy in range
 pub record PolicyKept (cells : List ℤ) (k : ℕ) : Type 0 where
   pub policy : Policy
-  pub inside : k < 16
+  pub below : k < 16
   pub held : PolicyCells cells k policy
   pub range : PolicyInRange policy
 
@@ -62,13 +63,23 @@ pub record ExclusionsKept (cells : List ℤ) : Type 0 where
   pub room : length exclusions ≤ 16
   pub range : Each ExclusionInRange exclusions
 
--- the cells are those of a book in range, and condition k is one of it
-pub record ConditionKept (cells : List ℤ) (k : ℕ) : Type 0 where
+-- the cells are those of a book in range, and condition n is one of it
+pub record ConditionKept (cells : List ℤ) (n : ℕ) : Type 0 where
   pub book : Book
   pub condition : Condition
   pub held : BookCells cells book
   pub range : BookInRange book
-  pub asked : conditionAt (book .conditions) k ≡ result condition
+  pub asked : conditionAt (book .conditions) n ≡ result condition
+
+-- and rule i, exclusion i, code i is one of these
+abbrev pub RuleKept : List ℤ → ℕ → ℕ → Type 0
+RuleKept cells k i = (h : PolicyKept cells k) × (i < length (h .policy .rules))
+
+abbrev pub ExclusionKept : List ℤ → ℕ → Type 0
+ExclusionKept cells i = (h : ExclusionsKept cells) × (i < length (h .exclusions))
+
+abbrev pub CodeKept : List ℤ → ℕ → ℕ → Type 0
+CodeKept cells n i = (h : ConditionKept cells n) × (i < length (codesOf (h .condition .expression)))
 
 -- a policy by value is that of one in range
 abbrev pub PolicyByValue : StoredPolicy → Type 0

@@ -8,28 +8,45 @@ use crate::cells::first_at;
 use crate::cells::mask_at;
 use crate::cells::operator_at;
 use crate::cells::second_at;
-use crate::storing::SoFar;
+use text::CODE_COUNT;
 ghost use mathlib.Core.Bool.{_&&_};
 ghost use mathlib.Core.Path.{_≡_};
-ghost use Prim.Native.Nat.{_≤_, _<_};
+ghost use Prim.Native.Nat.{_≤_};
 ghost use lib.Dec.{eqb};
 ghost use Rattle.arith.specs.Lists.{any};
-ghost use Rattle.peal.specs.Policies.{Expression};
-ghost use Rattle.text.specs.Codes.{HoldsCodes};
+ghost use Rattle.text.specs.Forms.{rule, exclusion};
 ghost use Rattle.book.specs.Acceptance.{mentionsBelow, excludes};
-ghost use Rattle.book.specs.Cells.{ForExclusions};
+ghost use Rattle.book.specs.Cells.{ForExclusions, ForExpression};
 ghost use Rattle.book.specs.Ranges.{ExclusionsKept};
-ghost use Rattle.book.specs.Judged.{PolicyJudged, ExclusionJudged, ConditionJudged};
-ghost use Rattle.book.specs.Taken.{Kept, RuleJudged};
+ghost use Rattle.book.specs.SoFar.{Kept};
+ghost use Rattle.book.specs.Judged.{JudgedFor, PolicyJudged, ConditionJudged};
 
-// Each policy that the expression mentions is one of the first n.
-fn mentions_below(codes: &[u32; 31], count: usize, n: u32) -> bool
-    requires { ⌜ (count ≤ 31) × (n ≤ 16) ⌝ }
-    ensures { λ r. ⌜ ((e : Expression) → HoldsCodes (now (codes .entry)) count e → r ≡ mentionsBelow n e) ⌝ }
+// The code of policy 0 in an expression; policy k has k more, and a join less.
+const POLICY_CODE: u32 = 2;
+
+// What the lines so far leave for the next one, beside the cells: whether the line above is a `p` or an `r`, the counts, and
+// whether the first line is an `o`.
+pub struct SoFar {
+    pub in_rules: bool,
+    pub policies: usize,
+    pub conditions: usize,
+    pub old_zero: bool,
+}
+
+// A line is fine, or refused for a reason.
+pub enum Verdict {
+    Fine,
+    Refused(Reason),
+}
+
+// Each policy that the expression mentions is one of the first so many.
+fn mentions_below(codes: &[u32; CODE_COUNT], count: usize, policies: u32) -> bool
+    requires { ⌜ (count ≤ 31) × (policies ≤ 16) ⌝ }
+    ensures { λ r. ⌜ ForExpression (now (codes .entry)) count (λ e. r ≡ mentionsBelow policies e) ⌝ }
 {
     let mut i = 0;
     while i < count {
-        if codes[i] >= n + 2 {
+        if codes[i] >= policies + POLICY_CODE {
             return false;
         }
         i += 1;
@@ -49,9 +66,9 @@ fn has_exclusion(cells: &Cells, first: u32, second: u32) -> bool
     requires { ⌜ ExclusionsKept (now cells) ⌝ }
     ensures { λ r. ⌜ ForExclusions (now (cells .entry)) (λ xs. r ≡ any (excludes first second) xs) ⌝ }
 {
-    let n = exclusion_count(cells);
+    let count = exclusion_count(cells);
     let mut i = 0;
-    while i < n {
+    while i < count {
         let one = first_at(cells, i);
         let other = second_at(cells, i);
         if are_both(one, other, first, second) {
@@ -65,19 +82,14 @@ fn has_exclusion(cells: &Cells, first: u32, second: u32) -> bool
     false
 }
 
-// A line is fine, or refused for a reason.
-pub enum Verdict {
-    Fine,
-    Refused(Reason),
-}
-
-pub fn judge_policy(asked: usize, opened: usize, ranged: bool) -> Verdict
-    ensures { λ r. ⌜ PolicyJudged asked opened ranged r × (r ≡ Verdict.Fine → opened < 16) ⌝ }
+// `ranged` tells whether the policy's default is in range.
+pub fn judge_policy(state: SoFar, ranged: bool) -> Verdict
+    ensures { λ r. ⌜ PolicyJudged state ranged r ⌝ }
 {
-    if 0 < asked {
+    if 0 < state.conditions {
         return Verdict::Refused(Reason::OutOfPlace);
     }
-    if !limits::room_for_policy(opened) {
+    if !limits::room_for_policy(state.policies) {
         return Verdict::Refused(Reason::TooMany);
     }
     if !ranged {
@@ -86,22 +98,22 @@ pub fn judge_policy(asked: usize, opened: usize, ranged: bool) -> Verdict
     Verdict::Fine
 }
 
-pub fn judge_rule(cells: &Cells, s: SoFar, signal: u32, score: i32) -> Verdict
-    requires { ⌜ Kept s (now cells) ⌝ }
-    ensures { λ r. ⌜ RuleJudged s (now (cells .entry)) signal score r ⌝ }
+pub fn judge_rule(cells: &Cells, state: SoFar, signal: u32, score: i32) -> Verdict
+    requires { ⌜ Kept state (now cells) ⌝ }
+    ensures { λ r. ⌜ JudgedFor state (now (cells .entry)) (rule signal score) r ⌝ }
 {
-    if !s.inside {
+    if !state.in_rules {
         return Verdict::Refused(Reason::OutOfPlace);
     }
-    let k = s.opened - 1;
-    let o = operator_at(cells, k);
-    if !limits::room_for_rule(o, count_at(cells, k)) {
+    let k = state.policies - 1;
+    let operator = operator_at(cells, k);
+    if !limits::room_for_rule(operator, count_at(cells, k)) {
         return Verdict::Refused(Reason::TooMany);
     }
     if !limits::signal_in_range(signal) {
         return Verdict::Refused(Reason::OutOfRange);
     }
-    if !limits::score_in_range(o, score) {
+    if !limits::score_in_range(operator, score) {
         return Verdict::Refused(Reason::OutOfRange);
     }
     if signals::is_present(mask_at(cells, k), signal) {
@@ -110,33 +122,33 @@ pub fn judge_rule(cells: &Cells, s: SoFar, signal: u32, score: i32) -> Verdict
     Verdict::Fine
 }
 
+// The first `count` codes are those of the condition's expression.
 pub fn judge_condition(
-    asked: usize,
-    opened: usize,
+    state: SoFar,
     threshold: i32,
-    codes: &[u32; 31],
-    n: usize,
+    codes: &[u32; CODE_COUNT],
+    count: usize,
 ) -> Verdict
-    requires { ⌜ (opened ≤ 16) × (n ≤ 31) ⌝ }
-    ensures { λ r. ⌜ ConditionJudged asked opened threshold (now (codes .entry)) n r × (r ≡ Verdict.Fine → asked < 8) ⌝ }
+    requires { ⌜ (state .policies ≤ 16) × (count ≤ 31) ⌝ }
+    ensures { λ r. ⌜ ConditionJudged state threshold (now (codes .entry)) count r ⌝ }
 {
-    if !limits::room_for_condition(asked) {
+    if !limits::room_for_condition(state.conditions) {
         return Verdict::Refused(Reason::TooMany);
     }
     if !limits::threshold_in_range(threshold) {
         return Verdict::Refused(Reason::OutOfRange);
     }
-    if !mentions_below(codes, n, opened as u32) {
+    if !mentions_below(codes, count, state.policies as u32) {
         return Verdict::Refused(Reason::OutOfRange);
     }
     Verdict::Fine
 }
 
-pub fn judge_exclusion(cells: &Cells, asked: usize, first: u32, second: u32) -> Verdict
+pub fn judge_exclusion(cells: &Cells, state: SoFar, first: u32, second: u32) -> Verdict
     requires { ⌜ ExclusionsKept (now cells) ⌝ }
-    ensures { λ r. ⌜ ExclusionJudged asked (now (cells .entry)) first second r ⌝ }
+    ensures { λ r. ⌜ JudgedFor state (now (cells .entry)) (exclusion first second) r ⌝ }
 {
-    if 0 < asked {
+    if 0 < state.conditions {
         return Verdict::Refused(Reason::OutOfPlace);
     }
     if !limits::room_for_exclusion(exclusion_count(cells)) {

@@ -2,22 +2,19 @@
 // The policies come first, then the conditions, then the exclusions. No cell means anything but those that are named here.
 // The functions are for this crate and those above, which have the cells of a book in range: no call that a user makes has a
 // condition, and each call of these is proved to meet it.
+use text::CODE_COUNT;
 ghost use mathlib.Core.Path.{_≡_};
-ghost use Prim.Native.Nat.{_<_};
 ghost use lib.ListN.{length, getD};
-ghost use Rattle.peal.specs.Policies.{Policy as PealPolicy, Condition as PealCondition, noRule, noExclusion, maskOf};
+ghost use Rattle.peal.specs.Policies.{noRule, noExclusion, maskOf};
 ghost use Rattle.text.specs.Codes.{codesOf};
-ghost use Rattle.book.specs.Cells.{PolicyCells, ForExclusions, ConditionCells, storedPolicy};
-ghost use Rattle.book.specs.Ranges.{PolicyKept, ExclusionsKept, ConditionKept};
+ghost use Rattle.book.specs.Cells.{ForPolicy, ForExclusions, ForCondition, storedPolicy};
+ghost use Rattle.book.specs.Ranges.{PolicyKept, RuleKept, ExclusionsKept, ExclusionKept, ConditionKept, CodeKept};
 
-pub const CELL_COUNT: usize = 881;
+// A policy has a rule for each signal at most.
+const MOST_RULES: usize = 16;
 
-pub type Cells = [i32; CELL_COUNT];
-
-// Policy k has the 36 cells from k * POLICY_CELLS on: its operator, and at these places after that its default, how many rules,
-// the set of their signals, their signals and their scores.
-pub const POLICY_CELLS: usize = 36;
-
+// Policy k has the cells from k * POLICY_CELLS on: its operator, and at these places after that its default, how many rules, the
+// set of their signals, their signals and their scores.
 pub const DEFAULT: usize = 1;
 
 pub const COUNT: usize = 2;
@@ -26,38 +23,45 @@ pub const MASK: usize = 3;
 
 pub const SIGNALS: usize = 4;
 
-pub const SCORES: usize = 20;
+pub const SCORES: usize = SIGNALS + MOST_RULES;
 
-// Condition k has 34 cells: k * CONDITION_CELLS after these places stand its sense, its threshold, how many codes, and the codes.
-pub const CONDITION_CELLS: usize = 34;
+pub const POLICY_CELLS: usize = SCORES + MOST_RULES;
 
-pub const SENSE: usize = 576;
+// After the policies come the conditions: n * CONDITION_CELLS after these places stand the sense of condition n, its threshold,
+// how many codes, and the codes.
+pub const SENSE: usize = limits::MOST_POLICIES * POLICY_CELLS;
 
-pub const THRESHOLD: usize = 577;
+pub const THRESHOLD: usize = SENSE + 1;
 
-pub const LENGTH: usize = 578;
+pub const LENGTH: usize = SENSE + 2;
 
-pub const CODES: usize = 579;
+pub const CODES: usize = SENSE + 3;
 
-// How many exclusions there are, the first signal of each, and the second signal of each.
-pub const EXCLUSION_COUNT_CELL: usize = 848;
+pub const CONDITION_CELLS: usize = CODES - SENSE + CODE_COUNT;
 
-pub const FIRSTS: usize = 849;
+// After the conditions stand how many exclusions there are, the first signal of each, and the second signal of each.
+pub const EXCLUSIONS: usize = SENSE + limits::MOST_CONDITIONS * CONDITION_CELLS;
 
-pub const SECONDS: usize = 865;
+pub const FIRSTS: usize = EXCLUSIONS + 1;
+
+pub const SECONDS: usize = FIRSTS + limits::MOST_EXCLUSIONS;
+
+pub const CELL_COUNT: usize = SECONDS + limits::MOST_EXCLUSIONS;
+
+pub type Cells = [i32; CELL_COUNT];
 
 // A policy by value: its first `count` signals and scores are its rules.
 pub struct Policy {
     pub operator: peal::Operator,
     pub default: i32,
     pub count: usize,
-    pub signals: [u32; 16],
-    pub scores: [i32; 16],
+    pub signals: [u32; MOST_RULES],
+    pub scores: [i32; MOST_RULES],
 }
 
 pub fn operator_at(cells: &Cells, k: usize) -> peal::Operator
     requires { ⌜ PolicyKept (now cells) k ⌝ }
-    ensures { λ r. ⌜ ((p : PealPolicy) → PolicyCells (now (cells .entry)) k p → r ≡ p .operator) ⌝ }
+    ensures { λ r. ⌜ ForPolicy (now (cells .entry)) k (λ p. r ≡ p .operator) ⌝ }
 {
     let code = cells[k * POLICY_CELLS];
     match code {
@@ -70,7 +74,7 @@ pub fn operator_at(cells: &Cells, k: usize) -> peal::Operator
 
 pub fn default_at(cells: &Cells, k: usize) -> i32
     requires { ⌜ PolicyKept (now cells) k ⌝ }
-    ensures { λ r. ⌜ ((p : PealPolicy) → PolicyCells (now (cells .entry)) k p → r ≡ p .default) ⌝ }
+    ensures { λ r. ⌜ ForPolicy (now (cells .entry)) k (λ p. r ≡ p .default) ⌝ }
 {
     cells[k * POLICY_CELLS + DEFAULT]
 }
@@ -78,7 +82,7 @@ pub fn default_at(cells: &Cells, k: usize) -> i32
 // How many rules the policy has.
 pub fn count_at(cells: &Cells, k: usize) -> usize
     requires { ⌜ PolicyKept (now cells) k ⌝ }
-    ensures { λ r. ⌜ ((p : PealPolicy) → PolicyCells (now (cells .entry)) k p → r ≡ length (p .rules)) ⌝ }
+    ensures { λ r. ⌜ ForPolicy (now (cells .entry)) k (λ p. r ≡ length (p .rules)) ⌝ }
 {
     cells[k * POLICY_CELLS + COUNT] as usize
 }
@@ -86,23 +90,23 @@ pub fn count_at(cells: &Cells, k: usize) -> usize
 // The set of the signals of the policy's rules.
 pub fn mask_at(cells: &Cells, k: usize) -> u16
     requires { ⌜ PolicyKept (now cells) k ⌝ }
-    ensures { λ r. ⌜ ((p : PealPolicy) → PolicyCells (now (cells .entry)) k p → r ≡ maskOf (p .rules)) ⌝ }
+    ensures { λ r. ⌜ ForPolicy (now (cells .entry)) k (λ p. r ≡ maskOf (p .rules)) ⌝ }
 {
     cells[k * POLICY_CELLS + MASK] as u16
 }
 
 // The signal of the policy's rule i.
 pub fn signal_at(cells: &Cells, k: usize, i: usize) -> u32
-    requires { ⌜ ((h : PolicyKept (now cells) k) × (i < length (h .policy .rules))) ⌝ }
-    ensures { λ r. ⌜ ((p : PealPolicy) → PolicyCells (now (cells .entry)) k p → r ≡ getD (p .rules) i noRule .signal) ⌝ }
+    requires { ⌜ RuleKept (now cells) k i ⌝ }
+    ensures { λ r. ⌜ ForPolicy (now (cells .entry)) k (λ p. r ≡ getD (p .rules) i noRule .signal) ⌝ }
 {
     cells[k * POLICY_CELLS + SIGNALS + i] as u32
 }
 
 // The score of the policy's rule i.
 pub fn score_at(cells: &Cells, k: usize, i: usize) -> i32
-    requires { ⌜ ((h : PolicyKept (now cells) k) × (i < length (h .policy .rules))) ⌝ }
-    ensures { λ r. ⌜ ((p : PealPolicy) → PolicyCells (now (cells .entry)) k p → r ≡ getD (p .rules) i noRule .score) ⌝ }
+    requires { ⌜ RuleKept (now cells) k i ⌝ }
+    ensures { λ r. ⌜ ForPolicy (now (cells .entry)) k (λ p. r ≡ getD (p .rules) i noRule .score) ⌝ }
 {
     cells[k * POLICY_CELLS + SCORES + i]
 }
@@ -110,13 +114,13 @@ pub fn score_at(cells: &Cells, k: usize, i: usize) -> i32
 // The policy by value.
 pub fn policy_at(cells: &Cells, k: usize) -> Policy
     requires { ⌜ PolicyKept (now cells) k ⌝ }
-    ensures { λ r. ⌜ ((p : PealPolicy) → PolicyCells (now (cells .entry)) k p → r ≡ storedPolicy p) ⌝ }
+    ensures { λ r. ⌜ ForPolicy (now (cells .entry)) k (λ p. r ≡ storedPolicy p) ⌝ }
 {
-    let n = count_at(cells, k);
-    let mut signals = [0u32; 16];
-    let mut scores = [0i32; 16];
+    let count = count_at(cells, k);
+    let mut signals = [0u32; MOST_RULES];
+    let mut scores = [0i32; MOST_RULES];
     let mut i = 0;
-    while i < n {
+    while i < count {
         signals[i] = signal_at(cells, k, i);
         scores[i] = score_at(cells, k, i);
         i += 1;
@@ -126,44 +130,44 @@ pub fn policy_at(cells: &Cells, k: usize) -> Policy
     Policy {
         operator: operator,
         default: default,
-        count: n,
+        count: count,
         signals: signals,
         scores: scores,
     }
 }
 
-pub fn sense_at(cells: &Cells, k: usize) -> peal::Sense
-    requires { ⌜ ConditionKept (now cells) k ⌝ }
-    ensures { λ r. ⌜ ((c : PealCondition) → ConditionCells (now (cells .entry)) k c → r ≡ c .sense) ⌝ }
+pub fn sense_at(cells: &Cells, n: usize) -> peal::Sense
+    requires { ⌜ ConditionKept (now cells) n ⌝ }
+    ensures { λ r. ⌜ ForCondition (now (cells .entry)) n (λ c. r ≡ c .sense) ⌝ }
 {
-    let code = cells[k * CONDITION_CELLS + SENSE];
+    let code = cells[n * CONDITION_CELLS + SENSE];
     match code {
         0 => peal::Sense::Above,
         _ => peal::Sense::AtMost,
     }
 }
 
-pub fn threshold_at(cells: &Cells, k: usize) -> i32
-    requires { ⌜ ConditionKept (now cells) k ⌝ }
-    ensures { λ r. ⌜ ((c : PealCondition) → ConditionCells (now (cells .entry)) k c → r ≡ c .threshold) ⌝ }
+pub fn threshold_at(cells: &Cells, n: usize) -> i32
+    requires { ⌜ ConditionKept (now cells) n ⌝ }
+    ensures { λ r. ⌜ ForCondition (now (cells .entry)) n (λ c. r ≡ c .threshold) ⌝ }
 {
-    cells[k * CONDITION_CELLS + THRESHOLD]
+    cells[n * CONDITION_CELLS + THRESHOLD]
 }
 
 // How many codes the condition's expression has.
-pub fn length_at(cells: &Cells, k: usize) -> usize
-    requires { ⌜ ConditionKept (now cells) k ⌝ }
-    ensures { λ r. ⌜ ((c : PealCondition) → ConditionCells (now (cells .entry)) k c → r ≡ length (codesOf (c .expression))) ⌝ }
+pub fn length_at(cells: &Cells, n: usize) -> usize
+    requires { ⌜ ConditionKept (now cells) n ⌝ }
+    ensures { λ r. ⌜ ForCondition (now (cells .entry)) n (λ c. r ≡ length (codesOf (c .expression))) ⌝ }
 {
-    cells[k * CONDITION_CELLS + LENGTH] as usize
+    cells[n * CONDITION_CELLS + LENGTH] as usize
 }
 
 // Code i of the condition's expression.
-pub fn code_at(cells: &Cells, k: usize, i: usize) -> u32
-    requires { ⌜ ((h : ConditionKept (now cells) k) × (i < length (codesOf (h .condition .expression)))) ⌝ }
-    ensures { λ r. ⌜ ((c : PealCondition) → ConditionCells (now (cells .entry)) k c → r ≡ getD (codesOf (c .expression)) i 0) ⌝ }
+pub fn code_at(cells: &Cells, n: usize, i: usize) -> u32
+    requires { ⌜ CodeKept (now cells) n i ⌝ }
+    ensures { λ r. ⌜ ForCondition (now (cells .entry)) n (λ c. r ≡ getD (codesOf (c .expression)) i 0) ⌝ }
 {
-    cells[k * CONDITION_CELLS + CODES + i] as u32
+    cells[n * CONDITION_CELLS + CODES + i] as u32
 }
 
 // How many exclusions the book has.
@@ -171,12 +175,12 @@ pub fn exclusion_count(cells: &Cells) -> usize
     requires { ⌜ ExclusionsKept (now cells) ⌝ }
     ensures { λ r. ⌜ ForExclusions (now (cells .entry)) (λ xs. r ≡ length xs) ⌝ }
 {
-    cells[EXCLUSION_COUNT_CELL] as usize
+    cells[EXCLUSIONS] as usize
 }
 
 // The first signal of exclusion i.
 pub fn first_at(cells: &Cells, i: usize) -> u32
-    requires { ⌜ ((h : ExclusionsKept (now cells)) × (i < length (h .exclusions))) ⌝ }
+    requires { ⌜ ExclusionKept (now cells) i ⌝ }
     ensures { λ r. ⌜ ForExclusions (now (cells .entry)) (λ xs. r ≡ getD xs i noExclusion .first) ⌝ }
 {
     cells[FIRSTS + i] as u32
@@ -184,7 +188,7 @@ pub fn first_at(cells: &Cells, i: usize) -> u32
 
 // The second signal of exclusion i.
 pub fn second_at(cells: &Cells, i: usize) -> u32
-    requires { ⌜ ((h : ExclusionsKept (now cells)) × (i < length (h .exclusions))) ⌝ }
+    requires { ⌜ ExclusionKept (now cells) i ⌝ }
     ensures { λ r. ⌜ ForExclusions (now (cells .entry)) (λ xs. r ≡ getD xs i noExclusion .second) ⌝ }
 {
     cells[SECONDS + i] as u32

@@ -1,11 +1,11 @@
 // Books of evidence policies, as text.
-// `check` is the call, and takes every byte string. The modules are this crate's own; of their functions `ask`, `read` and those that
+// `check` is the call, and takes every byte string. The modules are this crate's own; of their functions `ask` and those that
 // read the cells of a read book are for the crates above.
 mod acceptance;
+mod adding;
 mod cells;
 mod reading;
 mod storing;
-mod taking;
 
 ghost use mathlib.Core.Path.{_≡_};
 ghost use Prim.Native.Nat.{_<_};
@@ -29,7 +29,6 @@ pub use cells::signal_at;
 pub use cells::threshold_at;
 pub use reading::ask;
 pub use reading::check;
-pub use reading::read;
 
 // Why a line is refused, in the order in which a line is tried.
 pub enum Reason {

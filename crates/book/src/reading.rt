@@ -4,76 +4,70 @@ use crate::Checked;
 use crate::Declined;
 use crate::Reason;
 use crate::Refusal;
-use crate::acceptance::Verdict;
+use crate::acceptance::SoFar;
+use crate::adding::Step;
+use crate::adding::add_line;
 use crate::cells::CELL_COUNT;
 use crate::cells::Cells;
-use crate::storing::SoFar;
 use crate::storing::put_nothing;
-use crate::taking::take_line;
 use text::next_byte;
 ghost use mathlib.Core.Path.{_≡_};
-ghost use Rattle.answers.specs.Answers.{result};
-ghost use Rattle.peal.specs.Policies.{Book as PealBook};
+ghost use Rattle.answers.specs.Answers.{result, onResult};
+ghost use Rattle.book.specs.Adding.{stepMeaning, countsOf};
 ghost use Rattle.book.specs.Asked.{AskedAs};
-ghost use Rattle.book.specs.Books.{checked, read as readBook};
-ghost use Rattle.book.specs.Cells.{BookCells};
+ghost use Rattle.book.specs.Books.{checked};
+ghost use Rattle.book.specs.Cells.{ReadInto};
 ghost use Rattle.book.specs.Meaning.{checkedMeaning};
-ghost use Rattle.book.specs.declared.Reason.{Reason as BookReason};
-ghost use Rattle.book.specs.declared.Checked.the-variants.{Refused};
 
-fn refused(reason: Reason, line: usize) -> Checked
-    ensures { λ r. ⌜ r ≡ Refused (record { reason = reason; line = line }) ⌝ }
-{
-    Checked::Refused(Refusal {
-        reason: reason,
-        line: line,
-    })
-}
+// The byte that ends a line.
+const LINE_END: u8 = 10;
 
-// The refusal of a line. A fine line has none; this is not called with one.
-fn passed_up(v: Verdict, line: usize) -> Checked
-    ensures { λ r. ⌜ ((k : BookReason) → v ≡ Verdict.Refused k → r ≡ Refused (record { reason = k; line = line })) ⌝ }
+// What is told of a book whose last step is this one, of line `line`: how many of each there are so far, or the refusal.
+fn answer_after(step: Step, line: usize) -> Checked
+    ensures { λ r. ⌜ checkedMeaning r ≡ onResult (stepMeaning line step) (λ state. result (countsOf state)) ⌝ }
 {
-    match v {
-        Verdict::Refused(reason) => refused(reason, line),
-        Verdict::Fine => refused(Reason::NoForm, line),
+    match step {
+        Step::Added(state) => Checked::Accepted {
+            policies: state.policies,
+            conditions: state.conditions,
+        },
+        Step::Refused(reason) => Checked::Refused(Refusal {
+            reason: reason,
+            line: line,
+        }),
     }
 }
 
-// For the crates above: what a check of the book tells; and into the lent cells, whatever they hold, the book where it is
-// accepted. Where it is refused they hold nothing of use.
-pub fn read(bytes: &[u8], cells: &mut Cells) -> Checked
+// What a check of the book tells; and into the lent cells, whatever they hold, the book where it is accepted. Where it is
+// refused they hold nothing of use.
+fn read(bytes: &[u8], cells: &mut Cells) -> Checked
     ensures { λ r. ⌜ checkedMeaning r ≡ checked (now (bytes .entry)) ⌝ }
-    ensures { λ r. ⌜ ((b : PealBook) → readBook (now (bytes .entry)) ≡ result b → BookCells (now (cells .exit)) b) ⌝ }
+    ensures { λ r. ⌜ ReadInto (now (bytes .entry)) (now (cells .exit)) ⌝ }
 {
-    let n = bytes.len();
-    if !limits::book_fits(n) {
-        return refused(Reason::TooLong, 0);
+    let size = bytes.len();
+    if !limits::book_fits(size) {
+        return answer_after(Step::Refused(Reason::TooLong), 0);
     }
     put_nothing(cells);
-    let mut s = SoFar {
-        inside: false,
-        opened: 0,
-        asked: 0,
-        old: false,
+    let mut state = SoFar {
+        in_rules: false,
+        policies: 0,
+        conditions: 0,
+        old_zero: false,
     };
     let mut at = 0;
     let mut line = 1;
-    while at < n {
-        let end = next_byte(bytes, at, 10);
-        let t = take_line(cells, s, &bytes[at..end], end < n, line == 1);
-        let v = t.verdict;
-        let Verdict::Fine = v else {
-            return passed_up(v, line);
+    while at < size {
+        let end = next_byte(bytes, at, LINE_END);
+        let step = add_line(cells, state, &bytes[at..end], end < size, line == 1);
+        let Step::Added(next) = step else {
+            return answer_after(step, line);
         };
-        s = t.so;
+        state = next;
         at = end + 1;
         line += 1;
     }
-    Checked::Accepted {
-        policies: s.opened,
-        conditions: s.asked,
-    }
+    answer_after(Step::Added(state), line)
 }
 
 // For the crates above: the book into the lent cells, and in it the condition of a number, which counts from 0.

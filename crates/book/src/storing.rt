@@ -6,7 +6,7 @@ use crate::cells::CONDITION_CELLS;
 use crate::cells::COUNT;
 use crate::cells::Cells;
 use crate::cells::DEFAULT;
-use crate::cells::EXCLUSION_COUNT_CELL;
+use crate::cells::EXCLUSIONS;
 use crate::cells::FIRSTS;
 use crate::cells::LENGTH;
 use crate::cells::MASK;
@@ -19,6 +19,7 @@ use crate::cells::THRESHOLD;
 use crate::cells::count_at;
 use crate::cells::exclusion_count;
 use crate::cells::mask_at;
+use text::CODE_COUNT;
 ghost use mathlib.Core.Bool.{true};
 ghost use mathlib.Core.List.{[], _∷_, _++_};
 ghost use mathlib.Core.Path.{_≡_};
@@ -29,15 +30,6 @@ ghost use Rattle.text.specs.Codes.{HoldsCodes};
 ghost use Rattle.book.specs.Acceptance.{emptyBook, withRule, withPolicies, withLast, withExclusion, withCondition, lastPolicy, mentionsBelow};
 ghost use Rattle.book.specs.Cells.{operatorCode, senseCode, BookCells};
 ghost use Rattle.book.specs.Ranges.{PolicyKept, ExclusionsKept, BookInRange};
-
-// What the lines so far leave for the next one, beside the cells: whether the line above is a `p` or an `r`, the counts, and
-// whether the first line is an `o`.
-pub struct SoFar {
-    pub inside: bool,
-    pub opened: usize,
-    pub asked: usize,
-    pub old: bool,
-}
 
 fn operator_code(o: peal::Operator) -> i32
     ensures { λ r. ⌜ r ≡ operatorCode o ⌝ }
@@ -64,7 +56,7 @@ pub fn put_nothing(cells: &mut Cells)
     ensures { λ r. ⌜ BookCells (now (cells .exit)) emptyBook ⌝ }
 {
     let all: &mut [i32] = cells;
-    all[EXCLUSION_COUNT_CELL] = 0;
+    all[EXCLUSIONS] = 0;
 }
 
 // Policy k, the next one, with no rules.
@@ -107,7 +99,7 @@ pub fn put_exclusion(cells: &mut Cells, first: u32, second: u32)
     let all: &mut [i32] = cells;
     all[FIRSTS + n] = first as i32;
     all[SECONDS + n] = second as i32;
-    all[EXCLUSION_COUNT_CELL] = n as i32 + 1;
+    all[EXCLUSIONS] = n as i32 + 1;
 }
 
 // Condition k, the next one: the first n codes are those of its expression.
@@ -116,7 +108,7 @@ pub fn put_condition(
     k: usize,
     sense: peal::Sense,
     threshold: i32,
-    codes: &[u32; 31],
+    codes: &[u32; CODE_COUNT],
     n: usize,
 )
     requires { ⌜ (k < 8) × (n ≤ 31) × ((e : Expression) × HoldsCodes (now codes) n e × (mentionsBelow 16 e ≡ true)) ⌝ }

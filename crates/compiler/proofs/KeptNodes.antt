@@ -123,7 +123,7 @@ module _ {cells : List ℤ} {n : ℕ} (k : ConditionKept cells n) where
       lines-kept h t e count f =
           record {
             policy = mentioned;
-            inside = mention-kept k i h code told l .inside;
+            inside = mention-kept k i h code told l .below;
             held = mention-held k i h code told l;
             range = mention-range h;
             fits = threshold-fits t e;

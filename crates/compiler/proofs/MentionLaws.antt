@@ -70,7 +70,7 @@ lines-up-to last n (m ∷ ms) h =
 
 module _ {cells : List ℤ} {n : ℕ} {t : ℤ} {count : ℕ} (k : LinesKept cells n t count) where
   pub policy-kept : PolicyKept cells n
-  policy-kept = record { policy = k .policy; inside = k .inside; held = k .held; range = k .range }
+  policy-kept = record { policy = k .policy; below = k .inside; held = k .held; range = k .range }
 
   pub kept-few : count ≤ 65536
   kept-few = omega (arith, k .counted, lines-are-few (k .policy .operator) t (k .policy .rules) .ofSixteen (rules-at-most (k .policy) (k .range)))

@@ -7,13 +7,13 @@ const MOST_BOOK_BYTES: usize = 8192;
 
 const MOST_LINE_BYTES: usize = 128;
 
-const MOST_POLICIES: usize = 16;
+pub const MOST_POLICIES: usize = 16;
 
-const MOST_CONDITIONS: usize = 8;
+pub const MOST_CONDITIONS: usize = 8;
 
 const MOST_MUL_RULES: usize = 8;
 
-const MOST_EXCLUSIONS: usize = 16;
+pub const MOST_EXCLUSIONS: usize = 16;
 
 const LAST_SIGNAL: u32 = 15;
 

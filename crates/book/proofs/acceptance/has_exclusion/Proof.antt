@@ -12,17 +12,17 @@ use Rattle.arith.specs.Lists.{any}
 use Rattle.arith.proofs.AnyEvery.{any-here, any-later, any-left}
 use Rattle.peal.specs.Policies.{Exclusion, noExclusion}
 use Rattle.book.specs.Acceptance.{excludes}
-use Rattle.book.specs.Cells.{ExclusionCells}
+use Rattle.book.specs.Cells.{ExclusionCells, ForExclusions}
 use Rattle.book.proofs.JudgeLaws.{by-tests, by-first-test}
 use Rattle.book.proofs.acceptance.has_exclusion.Statement.{statement}
 use Rattle.book.proofs.acceptance.has_exclusion.Tie as tie
 
 abbrev Inv-loop : tie.InvT-loop
-Inv-loop cells first second n i₀ i =
-    (i ≤ n) × ((xs : List Exclusion) → ExclusionCells cells xs → any (excludes first second) (drop i xs) ≡ any (excludes first second) xs)
+Inv-loop cells first second count i₀ i =
+    (i ≤ count) × ForExclusions cells (λ xs. any (excludes first second) (drop i xs) ≡ any (excludes first second) xs)
 
 abbrev μ-loop : tie.MeasureT-loop
-μ-loop cells first second n i₀ i = n - i
+μ-loop cells first second count i₀ i = count - i
 
 exclusion-count-requires : tie.Need-exclusion-count-requires Inv-loop μ-loop
 exclusion-count-requires c κs = search needs

@@ -5,8 +5,9 @@ use mir.Syntax.{w32}
 use mir.ValLaws.{toZ-ofZ}
 use Rattle.limits.specs.Limits.{roomForCondition, thresholdInRange}
 use Rattle.text.specs.Forms.{condition}
-use Rattle.book.proofs.JudgeLaws.{accept-4, accept-5, accept-fine, not-fine, condition-placed, condition-counted, threshold-out, condition-range, condition-new}
-use borrow.Author.Tests.{ltb-true, not-true, not-false}
+use Rattle.book.proofs.JudgeLaws.{accept-4, accept-5, accept-fine, condition-placed, condition-counted, threshold-out, condition-range, condition-new}
+use Rattle.book.proofs.SoFarLaws.{policies-is, conditions-is}
+use borrow.Author.Tests.{not-true, not-false}
 use borrow.Author.Needs.{needs}
 use Rattle.book.proofs.acceptance.judge_condition.Statement.{statement}
 use Rattle.book.proofs.acceptance.judge_condition.Tie as tie
@@ -15,14 +16,13 @@ room-for-condition-requires : tie.Need-room-for-condition-requires
 room-for-condition-requires c κs = search needs
 
 returns : tie.Need-returns
-returns c = (
-  λ so k e a o d n.
-      accept-4 n so (condition k _ e) (condition-placed so k _ e n) (condition-counted so k _ e _ a false (sym (c .before .room-for-condition .ensures) ∙ not-true _ (c .if1 .taken))),
-  not-fine,
-)
+returns c =
+    λ e d so k left n.
+    accept-4 n so (condition k _ e) (condition-placed so k _ e n)
+    (condition-counted so k _ e _ (conditions-is so left) false (sym (c .before .room-for-condition .ensures) ∙ not-true _ (c .if1 .taken)))
 
 -- one more has room
-room : (c : tie.Else1) → roomForCondition (c .before .before .args .asked) ≡ true
+room : (c : tie.Else1) → roomForCondition (c .before .before .args .state .conditions) ≡ true
 room c = sym (c .before .room-for-condition .ensures) ∙ not-false _ (c .if1 .left)
 
 threshold-in-range-requires : tie.Need-threshold-in-range-requires
@@ -35,12 +35,10 @@ ranged c b e =
     sym (ap thresholdInRange (toZ-ofZ w32 (s .args .threshold) (s .fits .threshold))) ∙ sym (c .threshold-in-range .ensures) ∙ e
 
 returns-2 : tie.Need-returns-2
-returns-2 c = (
-  λ so k e a o d n.
-      accept-5 n so (condition k _ e) (condition-placed so k _ e n) (condition-counted so k _ e _ a true (room (c .before .before)))
-      (threshold-out so k _ e (ranged (c .before) false (not-true _ (c .if2 .taken)))),
-  not-fine,
-)
+returns-2 c =
+    λ e d so k left n.
+    accept-5 n so (condition k _ e) (condition-placed so k _ e n) (condition-counted so k _ e _ (conditions-is so left) true (room (c .before .before)))
+    (threshold-out so k _ e (ranged (c .before) false (not-true _ (c .if2 .taken))))
 
 cast-mentions-below : tie.Need-cast-mentions-below
 cast-mentions-below c = search needs
@@ -50,22 +48,18 @@ mentions-below-requires c κs = search needs
 
 returns-3 : tie.Need-returns-3
 returns-3 c =
-    let t = c .before .before in (
-      λ so k e a o d n.
-          accept-5 n so (condition k _ e) (condition-placed so k _ e n) (condition-counted so k _ e _ a true (room (t .before .before)))
-          (condition-range so k _ e (ranged (t .before) true (not-false _ (t .if2 .left))) _ o _ false (c .before .mentions-below .ensures e d) (not-true _ (c .if3 .taken))),
-      not-fine,
-    )
+    let t = c .before .before .before in
+    λ e d so k left n.
+    accept-5 n so (condition k _ e) (condition-placed so k _ e n) (condition-counted so k _ e _ (conditions-is so left) true (room (t .before .before)))
+    (condition-range so k _ e (ranged (t .before) true (not-false _ (t .if2 .left))) _ (policies-is so left) _ false (c .before .mentions-below .ensures e d) (not-true _ (c .if3 .taken)))
 
 returns-4 : tie.Need-returns-4
 returns-4 c =
-    let t = c .before .before in (
-      λ so k e a o d n.
-          accept-fine n so (condition k _ e) (condition-placed so k _ e n) (condition-counted so k _ e _ a true (room (t .before .before)))
-          (condition-range so k _ e (ranged (t .before) true (not-false _ (t .if2 .left))) _ o _ true (c .before .mentions-below .ensures e d) (not-false _ (c .if3 .left)))
-          (condition-new so k _ e),
-      λ q. ltb-true _ 8 (room (t .before .before)),
-    )
+    let t = c .before .before .before in
+    λ e d so k left n.
+    accept-fine n so (condition k _ e) (condition-placed so k _ e n) (condition-counted so k _ e _ (conditions-is so left) true (room (t .before .before)))
+    (condition-range so k _ e (ranged (t .before) true (not-false _ (t .if2 .left))) _ (policies-is so left) _ true (c .before .mentions-below .ensures e d) (not-false _ (c .if3 .left)))
+    (condition-new so k _ e)
 
 pub judge-condition-spec : {M : Type 1} → statement M
 judge-condition-spec =

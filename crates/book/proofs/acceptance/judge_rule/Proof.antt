@@ -9,31 +9,31 @@ use Rattle.limits.specs.Limits.{signalInRange}
 use Rattle.text.specs.Forms.{rule}
 use Rattle.book.specs.Acceptance.{BookSoFar, lastPolicy, inPlace, inCount, inRange, isNew, scoreInRange}
 use Rattle.book.specs.Ranges.{PolicyKept}
-use Rattle.book.specs.Taken.{Holds}
+use Rattle.book.specs.SoFar.{Holds}
 use Rattle.book.proofs.JudgeLaws.{accept-3, accept-4, accept-5, accept-6, accept-fine, rule-placed, rule-counted, signal-out, score-range, rule-new}
-use Rattle.book.proofs.TakingLaws.{kept-inside, some-opened, last-cells, last-range, last-kept}
+use Rattle.book.proofs.SoFarLaws.{in-rules-is, some-policy, last-cells, last-range, last-kept}
 use borrow.Author.Tests.{leb-true, not-true, not-false}
 use borrow.Author.Needs.{needs}
 use Rattle.book.proofs.acceptance.judge_rule.Statement.{statement}
 use Rattle.book.proofs.acceptance.judge_rule.Tie as tie
 
 returns : tie.Need-returns
-returns c = λ so h n. accept-3 n so (rule _ _) (rule-placed so _ _ n _ false (kept-inside _ _ so h) (not-true _ (c .if1 .taken)))
+returns c = λ so h n. accept-3 n so (rule _ _) (rule-placed so _ _ n _ false (in-rules-is so (h .left)) (not-true _ (c .if1 .taken)))
 
 -- after a `p` or an `r`
 module _ (c : tie.Else1) where
   abbrev begin : tie.Start
   begin = c .before .before
 
-  is-inside : begin .args .s .inside ≡ true
-  is-inside = not-false _ (c .if1 .left)
+  in-rules : begin .args .state .«in_rules» ≡ true
+  in-rules = not-false _ (c .if1 .left)
 
   -- the last policy is kept
-  kept : PolicyKept (now (begin .args .cells)) (begin .args .s .opened - 1)
-  kept = last-kept _ _ (begin .pre .0) (begin .pre .1) is-inside
+  kept : PolicyKept (now (begin .args .cells)) (begin .args .state .policies - 1)
+  kept = last-kept (begin .pre .1) in-rules
 
 sub-k : tie.Need-sub-k
-sub-k c = let s = begin (c .before) in some-opened _ _ (s .pre .0) (s .pre .1) (is-inside (c .before))
+sub-k c = let s = begin (c .before) in some-policy (s .pre .1) (in-rules (c .before))
 
 operator-at-requires : tie.Need-operator-at-requires
 operator-at-requires c κs = kept (c .before)
@@ -49,16 +49,16 @@ module _ (c : tie.After-room-for-rule) where
   abbrev inner : tie.Else1
   inner = c .before .before .before .before
 
-  module _ (so : BookSoFar) (h : Holds (begin inner .args .s) (now (begin inner .args .cells)) so) where
+  module _ (so : BookSoFar) (h : Holds (begin inner .args .state) (now (begin inner .args .cells)) so) where
     placed : (n : ℕ) → inPlace n so (rule (begin inner .args .signal) (begin inner .args .score)) ≡ true
-    placed n = rule-placed so _ _ n _ true (kept-inside _ _ so h) (is-inside inner)
+    placed n = rule-placed so _ _ n _ true (in-rules-is so (h .left)) (in-rules inner)
 
     operator : c .before .before .operator-at .result ≡ lastPolicy (so .book) .operator
-    operator = c .before .before .operator-at .ensures (lastPolicy (so .book)) (last-cells _ _ so h (is-inside inner))
+    operator = c .before .before .operator-at .ensures (lastPolicy (so .book)) (last-cells h (in-rules inner))
 
     counted : (b : Bool) → c .room-for-rule .result ≡ b → inCount so (rule (begin inner .args .signal) (begin inner .args .score)) ≡ b
     counted b e =
-        rule-counted so _ _ _ operator _ (c .before .count-at .ensures (lastPolicy (so .book)) (last-cells _ _ so h (is-inside inner))) b (sym (c .room-for-rule .ensures) ∙ e)
+        rule-counted so _ _ _ operator _ (c .before .count-at .ensures (lastPolicy (so .book)) (last-cells h (in-rules inner))) b (sym (c .room-for-rule .ensures) ∙ e)
 
 returns-2 : tie.Need-returns-2
 returns-2 c = λ so h n. accept-4 n so (rule _ _) (placed (c .before) so h n) (counted (c .before) so h false (not-true _ (c .if2 .taken)))
@@ -85,13 +85,13 @@ module _ (c : tie.Else3) where
   signal-ranged : signalInRange (start .args .signal) ≡ true
   signal-ranged = sym (c .before .signal-in-range .ensures) ∙ not-false _ (c .if3 .left)
 
-  is-counted : (so : BookSoFar) → Holds (start .args .s) (now (start .args .cells)) so → inCount so (rule (start .args .signal) (start .args .score)) ≡ true
+  is-counted : (so : BookSoFar) → Holds (start .args .state) (now (start .args .cells)) so → inCount so (rule (start .args .signal) (start .args .score)) ≡ true
   is-counted so h = counted roomy so h true (not-false _ (c .before .before .if2 .left))
 
 score-in-range-requires : tie.Need-score-in-range-requires
 score-in-range-requires c κs = search needs
 
-ranged : (c : tie.After-score-in-range) (so : BookSoFar) → Holds (start (c .before) .args .s) (now (start (c .before) .args .cells)) so
+ranged : (c : tie.After-score-in-range) (so : BookSoFar) → Holds (start (c .before) .args .state) (now (start (c .before) .args .cells)) so
     → (b : Bool) → c .score-in-range .result ≡ b
     → inRange so (rule (start (c .before) .args .signal) (start (c .before) .args .score)) ≡ b
 ranged c so h b e =
@@ -112,12 +112,12 @@ is-present-requires c κs = leb-true _ 15 (signal-ranged (c .before .before .bef
 
 -- the signal is there or not
 known : (c : tie.After-is-present) (so : BookSoFar)
-    → (h : Holds (start (c .before .before .before .before) .args .s) (now (start (c .before .before .before .before) .args .cells)) so)
+    → (h : Holds (start (c .before .before .before .before) .args .state) (now (start (c .before .before .before .before) .args .cells)) so)
     → (b : Bool) → c .is-present .result ≡ b
     → isNew so (rule (start (c .before .before .before .before) .args .signal) (start (c .before .before .before .before) .args .score)) ≡ not b
 known c so h b e =
-    let i = is-inside (inner (roomy (c .before .before .before .before))) in
-    rule-new so _ _ (last-range _ _ so h i .distinct) _ (c .before .mask-at .ensures (lastPolicy (so .book)) (last-cells _ _ so h i)) _ b (c .is-present .ensures) e
+    let i = in-rules (inner (roomy (c .before .before .before .before))) in
+    rule-new so _ _ (last-range h i .distinct) _ (c .before .mask-at .ensures (lastPolicy (so .book)) (last-cells h i)) _ b (c .is-present .ensures) e
 
 returns-5 : tie.Need-returns-5
 returns-5 c =

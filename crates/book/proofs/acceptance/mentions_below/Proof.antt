@@ -6,23 +6,22 @@ use native.Mathlib.Omega.{arith}
 use lib.Dec.{ltb}
 use lib.ListN.{take, drop}
 use Rattle.arith.specs.Lists.{every}
-use Rattle.peal.specs.Policies.{Expression}
 use Rattle.book.specs.Acceptance.{mentionsBelow}
-use Rattle.text.specs.Codes.{HoldsCodes}
+use Rattle.book.specs.Cells.{ForExpression}
 use Rattle.book.proofs.MentionedPolicies.{held-below}
 use Rattle.book.proofs.JudgeLaws.{all-further, all-not, all-end}
 use Rattle.book.proofs.acceptance.mentions_below.Statement.{statement}
 use Rattle.book.proofs.acceptance.mentions_below.Tie as tie
 
 abbrev Inv-loop : tie.InvT-loop
-Inv-loop codes count n i₀ i =
-    (i ≤ count) × ((e : Expression) → HoldsCodes codes count e → every (λ y. ltb y (n + 2)) (drop i (take count codes)) ≡ mentionsBelow n e)
+Inv-loop codes count policies i₀ i =
+    (i ≤ count) × ForExpression codes count (λ e. every (λ y. ltb y (policies + 2)) (drop i (take count codes)) ≡ mentionsBelow policies e)
 
 abbrev μ-loop : tie.MeasureT-loop
-μ-loop codes count n i₀ i = count - i
+μ-loop codes count policies i₀ i = count - i
 
 loop-holds : tie.Need-loop-holds Inv-loop μ-loop
-loop-holds c = (omega arith, λ e h. held-below _ (c .args .count) (c .args .n) e h)
+loop-holds c = (omega arith, λ e h. held-below _ (c .args .count) (c .args .policies) e h)
 
 mul-if1 : tie.Need-mul-if1 Inv-loop μ-loop
 mul-if1 c = search needs

@@ -19,13 +19,13 @@ use Rattle.book.proofs.cells.policy_at.Statement.{statement}
 use Rattle.book.proofs.cells.policy_at.Tie as tie
 
 abbrev Inv-loop : tie.InvT-loop
-Inv-loop cells k n signals₀ scores₀ i₀ signals scores i =
-    (i ≤ n) × ((p : Policy) → PolicyCells cells k p
+Inv-loop cells k count signals₀ scores₀ i₀ signals scores i =
+    (i ≤ count) × ((p : Policy) → PolicyCells cells k p
     → (signals ≡ padded 16 0 (map (λ (r : Rule). r .signal) (take i (p .rules))))
     × (scores ≡ padded 16 (pos 0) (map (λ (r : Rule). r .score) (take i (p .rules)))))
 
 abbrev μ-loop : tie.MeasureT-loop
-μ-loop cells k n signals₀ scores₀ i₀ signals scores i = n - i
+μ-loop cells k count signals₀ scores₀ i₀ signals scores i = count - i
 
 -- a policy of the cells has at most 16 rules, and rule i is one of them
 few : (c : tie.After-count-at Inv-loop μ-loop) (p : Policy) → PolicyCells (now (c .before .args .cells)) (c .before .args .k) p → length (p .rules) ≤ 16

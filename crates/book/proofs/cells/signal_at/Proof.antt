@@ -14,13 +14,13 @@ add-result : tie.Need-add-result
 add-result c = search needs
 
 add-result-2 : tie.Need-add-result-2
-add-result-2 c = record { fits = omega (arith, c .pre .0 .inside, c .pre .1, kept-rules (c .pre .0)) }
+add-result-2 c = record { fits = omega (arith, c .pre .0 .below, c .pre .1, kept-rules (c .pre .0)) }
 
 mul-result-2 : tie.Need-mul-result-2
-mul-result-2 c = record { fits = omega (arith, c .pre .0 .inside, c .pre .1, kept-rules (c .pre .0)) }
+mul-result-2 c = record { fits = omega (arith, c .pre .0 .below, c .pre .1, kept-rules (c .pre .0)) }
 
 element-copy-out-result : tie.Need-element-copy-out-result
-element-copy-out-result c = omega (arith, c .pre .0 .inside, c .pre .1, kept-rules (c .pre .0))
+element-copy-out-result c = omega (arith, c .pre .0 .below, c .pre .1, kept-rules (c .pre .0))
 
 cast-result : tie.Need-cast-result
 cast-result c =

@@ -1,4 +1,4 @@
--- `book::reading::read`: before each line what the code keeps is the definition's, which goes on from there as the whole book does.
+-- `book::reading::read`: before each line what the code has is the definition's, which goes on from there as the whole book does.
 use Prim.Native.Nat.{ℕ, _+_, _-_, _≤_}
 use mathlib.Core.Bool.{true}
 use mathlib.Core.List.{List}
@@ -11,15 +11,15 @@ use lib.ListN.{length}
 use Rattle.limits.specs.Limits.{bookFits}
 use Rattle.book.specs.declared.Reason.the-variants.{TooLong}
 use Rattle.text.proofs.TextLaws.{end-within}
-use Rattle.book.proofs.ReadLaws.{Going, start, going-refused, going-on, tells-refusal, tells-book, read-too-long}
+use Rattle.book.proofs.ReadLaws.{Going, going-first, going-refused, going-on, tells-refusal, tells-book, read-too-long}
 use Rattle.book.proofs.reading.read.Statement.{statement}
 use Rattle.book.proofs.reading.read.Tie as tie
 
 abbrev Inv-loop : tie.InvT-loop
-Inv-loop bytes cells₀ n s₀ at₀ line₀ cells s at line = (line ≤ at + 1) × Going bytes at line s cells
+Inv-loop bytes cells₀ size state₀ at₀ line₀ cells state at line = (line ≤ at + 1) × Going bytes at line state cells
 
 abbrev μ-loop : tie.MeasureT-loop
-μ-loop bytes cells₀ n s₀ at₀ line₀ cells s at line = length bytes - at
+μ-loop bytes cells₀ size state₀ at₀ line₀ cells state at line = length bytes - at
 
 -- where the line ends
 module _ (c : tie.After-next-byte Inv-loop μ-loop) where
@@ -39,53 +39,56 @@ book-fits-requires c κs = search needs
 short : (c : tie.Else1 Inv-loop μ-loop) → bookFits (length (now (c .before .before .before .args .bytes))) ≡ true
 short c = sym (c .before .book-fits .ensures) ∙ not-false _ (c .if1 .left)
 
-refused-requires : tie.Need-refused-requires Inv-loop μ-loop
-refused-requires c κs = search needs
+answer-after-requires : tie.Need-answer-after-requires Inv-loop μ-loop
+answer-after-requires c κs = search needs
 
 returns : tie.Need-returns Inv-loop μ-loop
-returns c = tells-refusal _ TooLong 0 _ _ (read-too-long _ (sym (c .before .before .book-fits .ensures) ∙ not-true _ (c .before .if1 .taken))) (c .refused .ensures)
+returns c =
+    let t = c .before in
+    tells-refusal _ TooLong 0 (c .answer-after .result) _ _ (read-too-long _ (sym (t .before .book-fits .ensures) ∙ not-true _ (t .if1 .taken))) refl (c .answer-after .ensures)
 
 put-nothing-requires : tie.Need-put-nothing-requires Inv-loop μ-loop
 put-nothing-requires c κs = search needs
 
 loop-holds : tie.Need-loop-holds Inv-loop μ-loop
-loop-holds c = (omega arith, start _ _ (short (c .before .before)) (c .put-nothing .ensures))
+loop-holds c = (omega arith, going-first _ _ (short (c .before .before)) (c .put-nothing .ensures))
 
 next-byte-requires : tie.Need-next-byte-requires Inv-loop μ-loop
 next-byte-requires c κs = omega arith
 
-sub-take-line : tie.Need-sub-take-line Inv-loop μ-loop
-sub-take-line c = omega (arith, c .before .next-byte .ensures)
+sub-add-line : tie.Need-sub-add-line Inv-loop μ-loop
+sub-add-line c = omega (arith, c .before .next-byte .ensures)
 
-part-take-line-start : tie.Need-part-take-line-start Inv-loop μ-loop
-part-take-line-start c = omega (arith, c .before .next-byte .ensures)
+part-add-line-start : tie.Need-part-add-line-start Inv-loop μ-loop
+part-add-line-start c = omega (arith, c .before .next-byte .ensures)
 
-part-take-line-end : tie.Need-part-take-line-end Inv-loop μ-loop
-part-take-line-end c = line-within (c .before)
+part-add-line-end : tie.Need-part-add-line-end Inv-loop μ-loop
+part-add-line-end c = line-within (c .before)
 
-take-line-requires : tie.Need-take-line-requires Inv-loop μ-loop
-take-line-requires c κs = let g = turn (c .before .before) .loop .inv .1 in (g .so, g .held)
+add-line-requires : tie.Need-add-line-requires Inv-loop μ-loop
+add-line-requires c κs = let g = turn (c .before .before) .loop .inv .1 in (g .so, g .held)
+
+enum-known-step : tie.Need-enum-known-step Inv-loop μ-loop
+enum-known-step c = search needs
 
 enum-told : tie.Need-enum-told Inv-loop μ-loop
 enum-told c = search needs
 
-enum-told-2 : tie.Need-enum-told-2 Inv-loop μ-loop
-enum-told-2 c = search needs
-
-passed-up-requires : tie.Need-passed-up-requires Inv-loop μ-loop
-passed-up-requires c κs = search needs
+answer-after-requires-2 : tie.Need-answer-after-requires-2 Inv-loop μ-loop
+answer-after-requires-2 c κs = search needs
 
 returns-2 : tie.Need-returns-2 Inv-loop μ-loop
 returns-2 c =
-    let k = c .before .before .before in
+    let m = c .before in
+    let k = m .before .before in
     let x = k .before .before .before in
     let l = turn x in
     let g = l .loop .inv .1 in
-    let r = c .before .enum-told2 .given in
-    let t = k .take-line in
-    tells-refusal (text x) (r .0 .0) (l .loop .line) _ _
+    let r = m .enum-told .given in
+    let t = k .add-line in
+    tells-refusal (text x) (r .0 .0) (l .loop .line) (c .answer-after2 .result) _ _
     (going-refused (text x) (l .loop .at) (l .loop .line) _ _ _ g (x .before .loop-test .taken) (x .next-byte .ensures) (t .result) _ (t .ensures (l .loop .line) (g .so) (g .held) refl) (r .0 .0) (r .1))
-    (c .passed-up .ensures (r .0 .0) (r .1))
+    (r .1) (c .answer-after2 .ensures)
 
 add-at : tie.Need-add-at Inv-loop μ-loop
 add-at c = omega (arith, line-within (c .before .before .before .before .before .before))
@@ -105,13 +108,16 @@ loop-again c =
     let x = k .before .before .before in
     let l = turn x in
     let g = l .loop .inv .1 in
-    let t = k .take-line in (
+    let t = k .add-line in (
       omega (arith, l .loop .inv .0, x .next-byte .ensures),
-      going-on (text x) (l .loop .at) (l .loop .line) _ _ _ g (x .before .loop-test .taken) (x .next-byte .ensures) (t .result) _ (t .ensures (l .loop .line) (g .so) (g .held) refl) (m .enum-told .given .1),
+      going-on (text x) (l .loop .at) (l .loop .line) _ _ _ g (x .before .loop-test .taken) (x .next-byte .ensures) (t .result) _ (t .ensures (l .loop .line) (g .so) (g .held) refl) _ (m .step .given .1),
     )
 
+answer-after-requires-3 : tie.Need-answer-after-requires-3 Inv-loop μ-loop
+answer-after-requires-3 c κs = search needs
+
 returns-3 : tie.Need-returns-3 Inv-loop μ-loop
-returns-3 c = tells-book _ _ _ _ _ (c .before .loop .inv .1) (c .loop-test .left)
+returns-3 c = let l = c .before in tells-book _ _ _ _ _ (c .answer-after3 .result) (l .before .loop .inv .1) (l .loop-test .left) (c .answer-after3 .ensures)
 
 pub read-spec : {M : Type 1} → statement M
 read-spec =
@@ -120,21 +126,22 @@ read-spec =
     Inv-loop
     μ-loop
     book-fits-requires
-    refused-requires
+    answer-after-requires
     returns
     put-nothing-requires
     loop-holds
     next-byte-requires
-    sub-take-line
-    part-take-line-start
-    part-take-line-end
-    take-line-requires
+    sub-add-line
+    part-add-line-start
+    part-add-line-end
+    add-line-requires
+    enum-known-step
     enum-told
-    enum-told-2
-    passed-up-requires
+    answer-after-requires-2
     returns-2
     add-at
     add-line
     loop-less
     loop-again
+    answer-after-requires-3
     returns-3)

@@ -81,13 +81,13 @@ add-all : tie.Need-add-all
 add-all c = search needs
 
 add-all-2 : tie.Need-add-all-2
-add-all-2 c = record { fits = omega (arith, few c, start c .pre .0 .inside) }
+add-all-2 c = record { fits = omega (arith, few c, start c .pre .0 .below) }
 
 mul-all-2 : tie.Need-mul-all-2
-mul-all-2 c = record { fits = omega (arith, few c, start c .pre .0 .inside) }
+mul-all-2 c = record { fits = omega (arith, few c, start c .pre .0 .below) }
 
 slice-set-from-all : tie.Need-slice-set-from-all
-slice-set-from-all c = omega (arith, few c, start c .pre .0 .inside, long c)
+slice-set-from-all c = omega (arith, few c, start c .pre .0 .below, long c)
 
 mul-score : tie.Need-mul-score
 mul-score c = search needs
@@ -96,13 +96,13 @@ add-score : tie.Need-add-score
 add-score c = search needs
 
 add-score-2 : tie.Need-add-score-2
-add-score-2 c = record { fits = omega (arith, few c, start c .pre .0 .inside) }
+add-score-2 c = record { fits = omega (arith, few c, start c .pre .0 .below) }
 
 mul-score-2 : tie.Need-mul-score-2
-mul-score-2 c = record { fits = omega (arith, few c, start c .pre .0 .inside) }
+mul-score-2 c = record { fits = omega (arith, few c, start c .pre .0 .below) }
 
 slice-set-from-score : tie.Need-slice-set-from-score
-slice-set-from-score c = let s = start c in omega (arith, few c, s .pre .0 .inside, long c, r-one-length (now (s .args .cells)) (s .args .k) (n c) (signal c) (score c) (counted c) (mask c))
+slice-set-from-score c = let s = start c in omega (arith, few c, s .pre .0 .below, long c, r-one-length (now (s .args .cells)) (s .args .k) (n c) (signal c) (score c) (counted c) (mask c))
 
 cast-all-2 : tie.Need-cast-all-2
 cast-all-2 c = record { sfits = omega (arith, few c) }
@@ -120,7 +120,7 @@ mul-t18 : tie.Need-mul-t18
 mul-t18 c = search needs
 
 slice-set-from-all-2 : tie.Need-slice-set-from-all-2
-slice-set-from-all-2 c = let s = start c in omega (arith, few c, s .pre .0 .inside, long c, r-two-length (now (s .args .cells)) (s .args .k) (n c) (signal c) (score c) (counted c) (mask c))
+slice-set-from-all-2 c = let s = start c in omega (arith, few c, s .pre .0 .below, long c, r-two-length (now (s .args .cells)) (s .args .k) (n c) (signal c) (score c) (counted c) (mask c))
 
 cast-all-3 : tie.Need-cast-all-3
 cast-all-3 c = record { sfits = omega (arith, small (c .before)) }
@@ -135,13 +135,13 @@ mul-t16-2 : tie.Need-mul-t16-2
 mul-t16-2 c = search needs
 
 slice-set-from-all-3 : tie.Need-slice-set-from-all-3
-slice-set-from-all-3 c = let s = start c in omega (arith, few c, s .pre .0 .inside, long c, r-three-length (now (s .args .cells)) (s .args .k) (n c) (signal c) (score c) (counted c) (mask c))
+slice-set-from-all-3 c = let s = start c in omega (arith, few c, s .pre .0 .below, long c, r-three-length (now (s .args .cells)) (s .args .k) (n c) (signal c) (score c) (counted c) (mask c))
 
 returns : tie.Need-returns
 returns c = λ b h range last.
     let s = start c in
     let held = last-held h last in
-    rule-put (now (s .args .cells)) (s .args .k) (n c) (signal c) (score c) (counted c) (mask c) (s .pre .0 .inside) (few c) (long c) b (record { signal = s .args .signal; score = s .args .score }) h range last
+    rule-put (now (s .args .cells)) (s .args .k) (n c) (signal c) (score c) (counted c) (mask c) (s .pre .0 .below) (few c) (long c) b (record { signal = s .args .signal; score = s .args .score }) h range last
     (c .before .before .before .before .count-at .ensures (lastPolicy b) held)
     (toZ-pos w32 (s .args .signal) (omega (arith, s .pre .2)))
     (toZ-ofZ w32 (s .args .score) (s .fits .score))

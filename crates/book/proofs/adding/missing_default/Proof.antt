@@ -1,9 +1,9 @@
--- `book::taking::missing_default`: by the mark and the operator.
+-- `book::adding::missing_default`: by the mark and the operator.
 use mathlib.Core.Path.{sym, ap₂}
 use borrow.Author.Needs.{needs}
 use Rattle.book.specs.Acceptance.{missingDefault}
-use Rattle.book.proofs.taking.missing_default.Statement.{statement}
-use Rattle.book.proofs.taking.missing_default.Tie as tie
+use Rattle.book.proofs.adding.missing_default.Statement.{statement}
+use Rattle.book.proofs.adding.missing_default.Tie as tie
 
 returns : tie.Need-returns
 unfolding missingDefault

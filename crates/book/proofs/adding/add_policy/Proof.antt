@@ -1,0 +1,64 @@
+-- `book::adding::add_policy`: by the verdict.
+use Prim.Native.Nat.{_<_}
+use mathlib.Core.Path.{_≡_, _∙_}
+use native.Mathlib.Omega.{arith}
+use mir.Syntax.{w32}
+use mir.ValLaws.{toZ-ofZ}
+use Rattle.text.specs.Forms.{policy}
+use Rattle.book.specs.Judged.{after}
+use Rattle.book.proofs.SoFarLaws.{policies-is}
+use Rattle.book.proofs.AddingLaws.{step-refused, step-added, judged-as, some-default, policy-room, policy-left, policy-cells}
+use borrow.Author.Needs.{needs}
+use Rattle.book.proofs.adding.add_policy.Statement.{statement}
+use Rattle.book.proofs.adding.add_policy.Tie as tie
+
+judge-policy-requires : tie.Need-judge-policy-requires
+judge-policy-requires c κs = search needs
+
+enum-known-reason : tie.Need-enum-known-reason
+enum-known-reason c = search needs
+
+returns : tie.Need-returns
+returns c =
+    let r = c .before in
+    let j = r .before .before in
+    λ n so d h z g. step-refused n _ _ _ (judged-as so (policy _ d) _ _ (r .reason .given .1) (j .judge-policy .ensures so _ d (h .left) g) n)
+
+enum-told : tie.Need-enum-told
+enum-told c = search needs
+
+-- the verdict is fine for some default too, and so there is room
+room : (m : tie.After-enum-told) → m .before .before .before .args .state .policies < 16
+room m =
+    let j = m .before .before in
+    let s = j .before in
+    let (so, h) = s .pre in
+    let (d, g) = some-default (s .args .ranged) in
+    omega (arith, policies-is so (h .left), policy-room so (s .args .operator) d (judged-as so (policy _ d) _ _ (m .enum-told .given .1) (j .judge-policy .ensures so _ d (h .left) g)))
+
+put-policy-requires : tie.Need-put-policy-requires
+put-policy-requires c κs = room (c .before)
+
+add-t11 : tie.Need-add-t11
+add-t11 c = record { fits = omega (arith, room (c .before .before)) }
+
+returns-2 : tie.Need-returns-2
+returns-2 c =
+    let m = c .before .before in
+    let j = m .before .before in
+    let s = j .before in
+    λ n so d h z g.
+    step-added n _ (after so (policy _ d)) _ _ (judged-as so (policy _ d) _ _ (m .enum-told .given .1) (j .judge-policy .ensures so _ d (h .left) g) n) (policy-left so (h .left) _ d)
+    (policy-cells _ so _ d _ (toZ-ofZ w32 (s .args .default) (s .fits .default) ∙ z) (c .put-policy .ensures (so .book) (h .held) (h .bounded .range) (policies-is so (h .left))))
+
+pub add-policy-spec : {M : Type 1} → statement M
+add-policy-spec =
+    tie.close
+    (tie.spec
+    judge-policy-requires
+    enum-known-reason
+    returns
+    enum-told
+    put-policy-requires
+    add-t11
+    returns-2)
