@@ -117,7 +117,8 @@ fn join_step(r: Record, so: SoFar, after: usize) -> Step
     })
 }
 
-// Record n, a pair of signals that never occur together, whose words must name the record `after` as the next; 0 if there is none.
+// Record n, a pair of signals that never occur together, whose words must name the record `after` as the next; 0 if there is
+// none.
 fn exclusion_step(r: Record, so: SoFar, n: usize, after: usize) -> Step
     ensures { λ s. ⌜ stepMeaning s ≡ exclusionStep n (recordMeaning r) (soFarMeaning so) after ⌝ }
 {
