@@ -16,7 +16,6 @@ use vectors::after_word;
 use vectors::book_vector;
 use vectors::signal_set;
 ghost use Prim.Native.Nat.{_≤_, _<_};
-ghost use mathlib.Core.Path.{_≡_};
 ghost use lib.ListN.{length};
 
 // Marks begin here: no word of a listing is as large.
@@ -48,9 +47,7 @@ fn mark(i: usize) -> u32 {
     FIRST_MARK + (i % MARKS) as u32
 }
 
-fn put_marks(words: &mut [u32])
-    ensures { λ r. ⌜ length (now (words .exit)) ≡ length (now (words .entry)) ⌝ }
-{
+fn put_marks(words: &mut [u32]) {
     let mut i = 0;
     while i < words.len() {
         words[i] = mark(i);

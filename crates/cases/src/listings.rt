@@ -17,7 +17,6 @@ use vectors::index_of;
 use vectors::put_numbers;
 use vectors::signal_set;
 ghost use Prim.Native.Nat.{_≤_};
-ghost use mathlib.Core.Path.{_≡_};
 ghost use lib.ListN.{length};
 
 // At most so many numbers are taken, of a line or on either side of its `/`, and at most so many answers are lent.
@@ -65,7 +64,6 @@ fn run_compare(text: &[u8]) -> bool {
 // The sets that the numbers give, one for each place.
 fn put_sets(numbers: &[u32], sets: &mut [u16])
     requires { ⌜ length (now sets) ≤ length (now numbers) ⌝ }
-    ensures { λ r. ⌜ length (now (sets .exit)) ≡ length (now (sets .entry)) ⌝ }
 {
     let mut i = 0;
     while i < sets.len() {
@@ -83,11 +81,12 @@ fn traverse_sets(numbers: &[u32], words: &[u32], sets: &mut [u16], answers: &mut
     print_bytes(answers);
 }
 
+// As a function, since of a parameter it is known that it fits its type.
 fn wide(number: u32) -> usize {
     number as usize
 }
 
-// The first number is how many answers are lent, the others are the sets.
+// The first number is how many answers are lent, the others are the sets. There is room for all of them.
 fn traverse_numbers(numbers: &[u32], words: &[u32]) -> bool
     requires { ⌜ length (now numbers) ≤ 512 ⌝ }
 {

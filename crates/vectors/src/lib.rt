@@ -1,6 +1,5 @@
 // Reading vectors from lines of text, for the program of cases.
 ghost use Prim.Native.Nat.{_≤_};
-ghost use mathlib.Core.Path.{_≡_};
 ghost use lib.ListN.{length};
 
 // The largest number of a vector.
@@ -10,9 +9,9 @@ const LARGEST: u32 = 4294967295;
 pub const SETS: usize = 65536;
 
 // A number in a line, and the index after the byte that ends it.
-pub struct Number {
-    pub value: u32,
-    pub next: usize,
+struct Number {
+    value: u32,
+    next: usize,
 }
 
 // `value` with one more digit; what is over the largest number is cut to that.
@@ -25,7 +24,7 @@ fn with_digit(value: u32, digit: u8) -> u32 {
 }
 
 // The number that begins at index `at`, and goes on to the first byte that is no digit.
-pub fn number_at(line: &[u8], at: usize) -> Number
+fn number_at(line: &[u8], at: usize) -> Number
     requires { ⌜ at ≤ length (now line) ⌝ }
     ensures { λ r. ⌜ r .next ≤ length (now (line .entry)) ⌝ }
 {
@@ -93,7 +92,7 @@ pub fn after_word(line: &[u8], word: &[u8]) -> usize
 
 // Puts the numbers of a text, each after one space, into the words as far as there is room, and tells how many.
 pub fn put_numbers(text: &[u8], words: &mut [u32]) -> usize
-    ensures { λ r. ⌜ (r ≤ length (now (words .entry))) × (length (now (words .exit)) ≡ length (now (words .entry))) ⌝ }
+    ensures { λ r. ⌜ r ≤ length (now (words .entry)) ⌝ }
 {
     let mut at = after_word(text, b" ");
     let mut count = 0;
@@ -115,9 +114,7 @@ fn book_byte(b: u8) -> u8 {
 }
 
 // Puts a line end wherever `|` stands.
-pub fn put_line_ends(text: &mut [u8])
-    ensures { λ r. ⌜ length (now (text .exit)) ≡ length (now (text .entry)) ⌝ }
-{
+pub fn put_line_ends(text: &mut [u8]) {
     let mut i = 0;
     while i < text.len() {
         text[i] = book_byte(text[i]);
