@@ -6,7 +6,7 @@ use mathlib.Core.Path.{_≡_}
 use lib.ListN.{length, drop}
 use Rattle.arith.specs.Options.{_>>=_}
 use Rattle.text.specs.Expressions.{expression}
-use Rattle.text.specs.Forms.{Form, oldZero, policy, rule, exclusion, condition, formOf}
+use Rattle.text.specs.Forms.{Form, oldZero, policy, rule, exclusion, condition, formOf, form}
 use Rattle.text.specs.declared.lines.Line.the-variants.{Policy, BarePolicy, Rule, Condition, Exclusion, OldZero}
 use Rattle.text.specs.declared.lines.LineRead.{LineRead}
 use Rattle.text.specs.declared.lines.LineRead.the-variants.{Good, NoForm}
@@ -23,14 +23,18 @@ lineMeaning line (Good (Condition c t i)) = do
   some (condition c t e)
 lineMeaning line NoForm = none
 
--- a condition's expression begins in the line, after six bytes at least
+-- the fewest bytes before a condition's expression: `c`, T and the sense, and a space after each
+abbrev pub fewestBefore : ℕ
+fewestBefore = 6
+
+-- a condition's expression begins in the line, after that many bytes
 abbrev pub StartIn : List ℕ → LineRead → Type 0
 StartIn line (Good OldZero) = Unit {0}
 StartIn line (Good (Policy o d)) = Unit {0}
 StartIn line (Good (BarePolicy o)) = Unit {0}
 StartIn line (Good (Rule s v)) = Unit {0}
 StartIn line (Good (Exclusion a b)) = Unit {0}
-StartIn line (Good (Condition c t i)) = (6 ≤ i) × (i ≤ length line)
+StartIn line (Good (Condition c t i)) = (fewestBefore ≤ i) × (i ≤ length line)
 StartIn line NoForm = Unit {0}
 
 -- what is read of a line is the form that these fields have
@@ -46,3 +50,7 @@ abbrev pub FourSay : (kind second third : List ℕ) → ℕ → LineRead → Typ
 FourSay kind second third from r =
     (line : List ℕ) → 3 + length kind + length second + length third ≤ from → from ≤ length line
     → Says line (kind ∷ second ∷ third ∷ drop from line ∷ []) r
+
+-- what is read of a line is its form
+abbrev pub LineSays : List ℕ → LineRead → Type 0
+LineSays line r = (lineMeaning line r ≡ form line) × StartIn line r

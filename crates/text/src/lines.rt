@@ -1,8 +1,6 @@
 // One line of a book, by its fields.
 ghost use mathlib.Core.List.{[], _∷_};
-ghost use mathlib.Core.Path.{_≡_};
-ghost use Rattle.text.specs.Forms.{form};
-ghost use Rattle.text.specs.LineMeaning.{lineMeaning, StartIn, FieldsSay, FourSay};
+ghost use Rattle.text.specs.LineMeaning.{FieldsSay, FourSay, LineSays};
 use super::bytes::field_end;
 use super::bytes::is_word;
 use super::keywords::OperatorRead;
@@ -125,10 +123,10 @@ fn four_fields(kind: &[u8], second: &[u8], third: &[u8], from: usize) -> LineRea
     LineRead::NoForm
 }
 
-// A line without its end, by how many fields it has. A condition's expression begins after six bytes at least, which bounds how
-// many codes it can have.
+// A line without its end, by how many fields it has. A condition's expression begins after six bytes at least, which
+// bounds how many codes it can have.
 pub fn read_line(line: &[u8]) -> LineRead
-    ensures { λ r. ⌜ (lineMeaning (now (line .entry)) r ≡ form (now (line .entry))) × StartIn (now (line .entry)) r ⌝ }
+    ensures { λ r. ⌜ LineSays (now (line .entry)) r ⌝ }
 {
     let n = line.len();
     let kind_end = field_end(line, 0);
