@@ -30,11 +30,11 @@ pub record Last (s : List ℕ) (at e : ℕ) : Type 0 where
 pub cut-on : (s : List ℕ) (at e : ℕ) → Cut s at e → e + 1 ≤ length s
 cut-on s at e c = let n = c .more in omega (arith, end-within space s at e (c .within) (c .end))
 
-pub a-field : (s : List ℕ) (at e : ℕ) → Cut s at e → fields (drop at s) ≡ take (e - at) (drop at s) ∷ fields (drop (e + 1) s)
+a-field : (s : List ℕ) (at e : ℕ) → Cut s at e → fields (drop at s) ≡ take (e - at) (drop at s) ∷ fields (drop (e + 1) s)
 unfolding fields
 a-field s at e c = parted-at space s at e (c .within) (c .end) (omega (arith, cut-on s at e c))
 
-pub the-last : (s : List ℕ) (at e : ℕ) → Last s at e → fields (drop at s) ≡ drop at s ∷ []
+the-last : (s : List ℕ) (at e : ℕ) → Last s at e → fields (drop at s) ≡ drop at s ∷ []
 unfolding fields
 the-last s at e c = parted-at-last space s at e (c .within) (c .end) (let n = c .no-more in omega arith)
 
@@ -44,7 +44,7 @@ last-field s at e c =
     let n = c .no-more in
     rw (the-last s at e c, take-all (e - at) (drop at s) (omega (arith, length-drop at s)))
 
-pub some-field : (s : List ℕ) → (f : List ℕ) × (fs : List (List ℕ)) × (fields s ≡ f ∷ fs)
+some-field : (s : List ℕ) → (f : List ℕ) × (fs : List (List ℕ)) × (fields s ≡ f ∷ fs)
 unfolding fields
 some-field s = (take (upTo space s) s, laterPieces space s, parted-first space s)
 

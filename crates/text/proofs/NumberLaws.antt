@@ -26,7 +26,7 @@ use Rattle.text.specs.Expressions.{digitCount}
 pub none-some : {A : Type 0} {a : A} → none ≡ some a → ⊥
 none-some h = let z : _≡_ {A = ℕ} 0 1 = cc in omega arith
 
-pub if-some : {A : Type 0} (t : Bool) (o : Option A) {a : A} → (if t then o) ≡ some a → (t ≡ true) × (o ≡ some a)
+if-some : {A : Type 0} (t : Bool) (o : Option A) {a : A} → (if t then o) ≡ some a → (t ≡ true) × (o ≡ some a)
 if-some true o h = (refl, h)
 if-some false o h = absurd (none-some h)
 
