@@ -8,7 +8,7 @@ use lib.IntN.{ℤ}
 use lib.ListN.{length, take, drop, length-drop, length-take}
 use lib.Seq.{take-all}
 use Rattle.peal.specs.declared.Sense.{Sense}
-use Rattle.text.specs.Text.{fields, is}
+use Rattle.text.specs.Text.{space, fields, is}
 use Rattle.text.specs.Numbers.{number}
 use Rattle.text.specs.Forms.{senseWord, sense}
 use Rattle.text.specs.Spelling.{upTo}
@@ -18,25 +18,25 @@ use Rattle.text.proofs.TextLaws.{laterPieces, parted-first, end-within,
 -- the field at `at` ends at e, and the line goes on after it
 pub record Cut (s : List ℕ) (at e : ℕ) : Type 0 where
   pub within : at ≤ length s
-  pub end : e ≡ at + upTo 32 (drop at s)
+  pub end : e ≡ at + upTo space (drop at s)
   pub more : e ≡ length s → ⊥
 
 -- the field at `at` ends at e, the line's end
 pub record Last (s : List ℕ) (at e : ℕ) : Type 0 where
   pub within : at ≤ length s
-  pub end : e ≡ at + upTo 32 (drop at s)
+  pub end : e ≡ at + upTo space (drop at s)
   pub no-more : e ≡ length s
 
 pub cut-on : (s : List ℕ) (at e : ℕ) → Cut s at e → e + 1 ≤ length s
-cut-on s at e c = let n = c .more in omega (arith, end-within 32 s at e (c .within) (c .end))
+cut-on s at e c = let n = c .more in omega (arith, end-within space s at e (c .within) (c .end))
 
-pub a-field : (s : List ℕ) (at e : ℕ) → Cut s at e → fields (drop at s) ≡ take (e - at) (drop at s) ∷ fields (drop (e + 1) s)
+a-field : (s : List ℕ) (at e : ℕ) → Cut s at e → fields (drop at s) ≡ take (e - at) (drop at s) ∷ fields (drop (e + 1) s)
 unfolding fields
-a-field s at e c = parted-at 32 s at e (c .within) (c .end) (omega (arith, cut-on s at e c))
+a-field s at e c = parted-at space s at e (c .within) (c .end) (omega (arith, cut-on s at e c))
 
-pub the-last : (s : List ℕ) (at e : ℕ) → Last s at e → fields (drop at s) ≡ drop at s ∷ []
+the-last : (s : List ℕ) (at e : ℕ) → Last s at e → fields (drop at s) ≡ drop at s ∷ []
 unfolding fields
-the-last s at e c = parted-at-last 32 s at e (c .within) (c .end) (let n = c .no-more in omega arith)
+the-last s at e c = parted-at-last space s at e (c .within) (c .end) (let n = c .no-more in omega arith)
 
 last-field : (s : List ℕ) (at e : ℕ) → Last s at e → fields (drop at s) ≡ take (e - at) (drop at s) ∷ []
 last-field s at e c =
@@ -44,9 +44,9 @@ last-field s at e c =
     let n = c .no-more in
     rw (the-last s at e c, take-all (e - at) (drop at s) (omega (arith, length-drop at s)))
 
-pub some-field : (s : List ℕ) → (f : List ℕ) × (fs : List (List ℕ)) × (fields s ≡ f ∷ fs)
+some-field : (s : List ℕ) → (f : List ℕ) × (fs : List (List ℕ)) × (fields s ≡ f ∷ fs)
 unfolding fields
-some-field s = (take (upTo 32 s) s, laterPieces 32 s, parted-first 32 s)
+some-field s = (take (upTo space s) s, laterPieces space s, parted-first space s)
 
 -- the first field, as the code has it
 first-field : (s : List ℕ) (e : ℕ) → Cut s 0 e → fields s ≡ take e s ∷ fields (drop (e + 1) s)

@@ -11,7 +11,7 @@ use lib.ListN.{length}
 use Rattle.arith.proofs.Options.{Finds, finds-that, finds-then, finds-any, finds-if, finds-either}
 use Rattle.peal.specs.Policies.{Expression}
 use Rattle.peal.specs.declared.Sense.{Sense}
-use Rattle.text.specs.Text.{bytes, longer, parted, fields, is}
+use Rattle.text.specs.Text.{bytes, longer, parted, space, fields, is}
 use Rattle.text.specs.Numbers.{natural, number}
 use Rattle.text.specs.Expressions.{expression}
 use Rattle.text.specs.Forms.{Form, oldZero, policy, rule, exclusion, condition, operator, sense, barePolicy, fullPolicy, ruleLine, exclusionLine, conditionLine, formOf, form}
@@ -85,4 +85,4 @@ fields-fit (k ∷ a ∷ b ∷ e ∷ f ∷ fs) h = tt
 -- a line's form has at most 16 mentions
 pub form-mentions : (line : List ℕ) → length line ≤ 128 → Finds FewMentions (form line)
 unfolding form fields
-form-mentions line h = fields-fit (fields line) (omega (arith, parted-span 32 line))
+form-mentions line h = fields-fit (fields line) (omega (arith, parted-span space line))

@@ -1,13 +1,13 @@
 -- Laws of numbers: what a test of the code settles of the definitions, how large numbers get, and small numbers in 32 bits.
 use Prim.Native.Nat.{ℕ, zero, suc, _+_, _-_, _*_, _^_, _≤_, _<_}
-use mathlib.Core.Bool.{Bool, true, false, cond, _&&_}
+use mathlib.Core.Bool.{Bool, true, false, cond, not, _&&_}
 use mathlib.Core.List.{List, [], _∷_}
 use mathlib.Core.Option.{Option, none, some}
 use mathlib.Core.Path.{_≡_, refl, _∙_}
 use native.Mathlib.Nat.{pow-le-pow-right, pow-suc, mul-le-mul-right}
 use native.Mathlib.Numerals.{add-one}
 use native.Mathlib.Omega.{arith}
-use lib.Dec.{leb, lit<}
+use lib.Dec.{leb, eqb, lit<}
 use lib.IntN.{pos, negℤ, _-ℤ_, +ℤ-idl}
 use lib.ListN.{length, getD, take, drop, drop-of-length-le}
 use lib.Seq.{drop-cons, take-all}
@@ -26,7 +26,7 @@ use Rattle.text.specs.Expressions.{digitCount}
 pub none-some : {A : Type 0} {a : A} → none ≡ some a → ⊥
 none-some h = let z : _≡_ {A = ℕ} 0 1 = cc in omega arith
 
-pub if-some : {A : Type 0} (t : Bool) (o : Option A) {a : A} → (if t then o) ≡ some a → (t ≡ true) × (o ≡ some a)
+if-some : {A : Type 0} (t : Bool) (o : Option A) {a : A} → (if t then o) ≡ some a → (t ≡ true) × (o ≡ some a)
 if-some true o h = (refl, h)
 if-some false o h = absurd (none-some h)
 
@@ -40,46 +40,44 @@ pub long-no-natural : (s : List ℕ) → 6 < length s → natural s ≡ none
 unfolding natural
 long-no-natural s h = rw (le-leb 1 (length s) (omega arith), lt-leb (length s) 6 h)
 
-zero-leads : (s : List ℕ) → 1 < length s → getD s 0 0 ≡ 48 → noLeadingZero s ≡ false
-unfolding noLeadingZero
-zero-leads [] h e = absurd (omega arith)
-zero-leads (b ∷ []) h e = absurd (omega arith)
-zero-leads (b ∷ c ∷ s) h e = rw (eq-eqb b 48 e)
-
-no-zero-leads : (s : List ℕ) → (getD s 0 0 ≡ 48 → ⊥) → noLeadingZero s ≡ true
-unfolding noLeadingZero
-no-zero-leads [] h = refl
-no-zero-leads (b ∷ []) h = refl
-no-zero-leads (b ∷ c ∷ s) h = rw (ne-eqb b 48 h)
-
-pub lead-no-natural : (s : List ℕ) → 1 < length s → length s ≤ 6 → getD s 0 0 ≡ 48 → natural s ≡ none
+pub lead-no-natural : (s : List ℕ) → 0 < length s → length s ≤ 6 → noLeadingZero s ≡ false → natural s ≡ none
 unfolding natural
-lead-no-natural s h l e = simp (zero-leads s h e, le-leb 1 (length s) (omega arith), le-leb (length s) 6 l)
+lead-no-natural s h l e = simp (e, le-leb 1 (length s) h, le-leb (length s) 6 l)
 
-pub zero-natural : (s : List ℕ) → length s ≡ 1 → getD s 0 0 ≡ 48 → natural s ≡ some 0
-unfolding natural withDigits isDigit noLeadingZero
-zero-natural [] h e = absurd (omega arith)
-zero-natural (b ∷ []) h e = simp e
-zero-natural (b ∷ c ∷ s) h e = absurd (omega arith)
-
-pub plain-natural : (s : List ℕ) → 0 < length s → length s ≤ 6 → (getD s 0 0 ≡ 48 → ⊥) → natural s ≡ withDigits 0 s
+pub plain-natural : (s : List ℕ) → 0 < length s → length s ≤ 6 → noLeadingZero s ≡ true → natural s ≡ withDigits 0 s
 unfolding natural
-plain-natural s h l e = simp (no-zero-leads s e, le-leb 1 (length s) h, le-leb (length s) 6 l)
+plain-natural s h l e = simp (e, le-leb 1 (length s) h, le-leb (length s) 6 l)
+
+-- 0 stands first only where it is the only digit: of fewer than two bytes, and of more
+pub short-no-zero : (s : List ℕ) → length s < 2 → true ≡ noLeadingZero s
+unfolding noLeadingZero
+short-no-zero [] h = refl
+short-no-zero (b ∷ []) h = refl
+short-no-zero (b ∷ c ∷ s) h = absurd (omega arith)
+
+pub first-no-zero : (s : List ℕ) → 2 ≤ length s → not (eqb (getD s 0 0) 48) ≡ noLeadingZero s
+unfolding noLeadingZero
+first-no-zero [] h = absurd (omega arith)
+first-no-zero (b ∷ []) h = absurd (omega arith)
+first-no-zero (b ∷ c ∷ s) h = refl
 
 -- ---- digits one by one, from the place i on
 
-pub digit-more : (v : ℕ) (s : List ℕ) (i : ℕ) → i < length s → 48 ≤ getD s i 0 → getD s i 0 ≤ 57
-    → withDigits v (drop i s) ≡ withDigits (v * 10 + (getD s i 0 - 48)) (drop (i + 1) s)
-unfolding withDigits isDigit
-digit-more v s i h l u = rw (drop-cons s i 0 h, add-one i) (simp (le-leb 48 (getD s i 0) l, le-leb (getD s i 0) 57 u))
+pub digit-low : (b : ℕ) → isDigit b ≡ true → 48 ≤ b
+unfolding isDigit
+digit-low b h = leb-true 48 b (and-left (leb 48 b) (leb b 57) h)
 
-pub no-digit-low : (v : ℕ) (s : List ℕ) (i : ℕ) → i < length s → getD s i 0 < 48 → withDigits v (drop i s) ≡ none
-unfolding withDigits isDigit
-no-digit-low v s i h l = rw (drop-cons s i 0 h) (simp (lt-leb 48 (getD s i 0) l))
+pub digit-high : (b : ℕ) → isDigit b ≡ true → b ≤ 57
+unfolding isDigit
+digit-high b h = leb-true b 57 (and-right (leb 48 b) (leb b 57) h)
 
-pub no-digit-high : (v : ℕ) (s : List ℕ) (i : ℕ) → i < length s → 57 < getD s i 0 → withDigits v (drop i s) ≡ none
-unfolding withDigits isDigit
-no-digit-high v s i h l = rw (drop-cons s i 0 h) (simp (le-leb 48 (getD s i 0) (omega arith), lt-leb (getD s i 0) 57 l))
+pub digit-more : (v : ℕ) (s : List ℕ) (i : ℕ) → i < length s → isDigit (getD s i 0) ≡ true → withDigits v (drop i s) ≡ withDigits (v * 10 + (getD s i 0 - 48)) (drop (i + 1) s)
+unfolding withDigits
+digit-more v s i h d = rw (drop-cons s i 0 h, d, add-one i)
+
+pub no-digit : (v : ℕ) (s : List ℕ) (i : ℕ) → i < length s → isDigit (getD s i 0) ≡ false → withDigits v (drop i s) ≡ none
+unfolding withDigits
+no-digit v s i h d = rw (drop-cons s i 0 h, d)
 
 pub digits-done : (v : ℕ) (s : List ℕ) (i : ℕ) → length s ≤ i → withDigits v (drop i s) ≡ some v
 unfolding withDigits
@@ -87,17 +85,13 @@ digits-done v s i h = rw (drop-of-length-le s h)
 
 -- ---- how many digits stand at the place i
 
-pub count-more : (s : List ℕ) (i : ℕ) → i < length s → 48 ≤ getD s i 0 → getD s i 0 ≤ 57 → digitCount (drop i s) ≡ suc (digitCount (drop (i + 1) s))
-unfolding digitCount isDigit
-count-more s i h l u = rw (drop-cons s i 0 h, add-one i) (simp (le-leb 48 (getD s i 0) l, le-leb (getD s i 0) 57 u))
+pub count-more : (s : List ℕ) (i : ℕ) → i < length s → isDigit (getD s i 0) ≡ true → digitCount (drop i s) ≡ suc (digitCount (drop (i + 1) s))
+unfolding digitCount
+count-more s i h d = rw (drop-cons s i 0 h, d, add-one i)
 
-pub count-low : (s : List ℕ) (i : ℕ) → i < length s → getD s i 0 < 48 → digitCount (drop i s) ≡ 0
-unfolding digitCount isDigit
-count-low s i h l = rw (drop-cons s i 0 h) (simp (lt-leb 48 (getD s i 0) l))
-
-pub count-high : (s : List ℕ) (i : ℕ) → i < length s → 57 < getD s i 0 → digitCount (drop i s) ≡ 0
-unfolding digitCount isDigit
-count-high s i h l = rw (drop-cons s i 0 h) (simp (le-leb 48 (getD s i 0) (omega arith), lt-leb (getD s i 0) 57 l))
+pub count-none : (s : List ℕ) (i : ℕ) → i < length s → isDigit (getD s i 0) ≡ false → digitCount (drop i s) ≡ 0
+unfolding digitCount
+count-none s i h d = rw (drop-cons s i 0 h, d)
 
 pub count-done : (s : List ℕ) (i : ℕ) → length s ≤ i → digitCount (drop i s) ≡ 0
 unfolding digitCount
@@ -122,10 +116,6 @@ tens i h = pow-le-pow-right {n = 10} (lit< tt) {i = i} {j = 5} (omega arith)
 pub digit-room : (v d i : ℕ) → v < 10 ^ i → d ≤ 9 → v * 10 + d < 10 ^ (i + 1)
 digit-room v d i h l = rw (add-one i, pow-suc 10 i) (omega arith)
 
-digit-size : (b : ℕ) → isDigit b ≡ true → b - 48 ≤ 9
-unfolding isDigit
-digit-size b h = omega (arith, leb-true b 57 (and-right (leb 48 b) (leb b 57) h))
-
 one-more : (v d p n : ℕ) → d ≤ 9 → n < (v * 10 + d + 1) * p → n < (v + 1) * (p * 10)
 one-more v d p n h l =
     let m : v * 10 + d + 1 ≤ v * 10 + 10 = omega arith in
@@ -137,7 +127,7 @@ digits-small v [] n e = let h : v ≡ n = cc in omega arith
 digits-small v (b ∷ s) n e =
     let q = if-some (isDigit b) (withDigits (v * 10 + (b - 48)) s) e in
     let i = digits-small (v * 10 + (b - 48)) s n (q .1) in
-    rw (pow-suc 10 (length s)) (one-more v (b - 48) (10 ^ length s) n (digit-size b (q .0)) i)
+    rw (pow-suc 10 (length s)) (one-more v (b - 48) (10 ^ length s) n (omega (arith, digit-high b (q .0))) i)
 
 pub natural-small : (s : List ℕ) (n : ℕ) → natural s ≡ some n → n < 1000000
 unfolding natural
@@ -171,26 +161,10 @@ unfolding number
 plain-number [] h e = absurd (h refl)
 plain-number (b ∷ s) h e = rw (ne-eqb b 45 e)
 
-pub minus-zero : (o : Option ℕ) (n : ℕ) → o ≡ some n → n ≡ 0 → negative o ≡ none
+pub minus-some : (n : ℕ) → (n ≡ 0 → ⊥) → negative (some n) ≡ some (negℤ (pos n))
 unfolding negative
-minus-zero o n e z = rw (e, z)
-
-pub minus-some : (o : Option ℕ) (n : ℕ) → o ≡ some n → (n ≡ 0 → ⊥) → negative o ≡ some (negℤ (pos n))
-unfolding negative
-minus-some o zero e z = absurd (z refl)
-minus-some o (suc n) e z = rw e
-
-pub minus-none : (o : Option ℕ) → o ≡ none → negative o ≡ none
-unfolding negative
-minus-none o e = rw e
-
-pub plain-some : (o : Option ℕ) (n : ℕ) → o ≡ some n → positive o ≡ some (pos n)
-unfolding positive
-plain-some o n e = rw e
-
-pub plain-none : (o : Option ℕ) → o ≡ none → positive o ≡ none
-unfolding positive
-plain-none o e = rw e
+minus-some zero z = absurd (z refl)
+minus-some (suc n) z = refl
 
 -- ---- a number below a million in 32 bits, as it is and negated
 

@@ -1,6 +1,6 @@
 -- Laws of bytes and lines: where the next x stands, and what is parted there.
 use Prim.Native.Nat.{ℕ, suc, _+_, _-_, _≤_, _<_}
-use mathlib.Core.Bool.{Bool, true, false, cond, _&&_}
+use mathlib.Core.Bool.{Bool, true, false, cond}
 use mathlib.Core.List.{List, [], _∷_}
 use mathlib.Core.Logic.{⊎-elim}
 use mathlib.Core.Path.{_≡_, refl, sym, ap, subst, _∙_}
@@ -8,11 +8,10 @@ use native.Mathlib.Nat.{eq-or-lt-of-le}
 use native.Mathlib.Numerals.{add-one}
 use native.Mathlib.Omega.{arith}
 use lib.Dec.{eqb, ltb, leb·suc-suc}
-use lib.ListN.{length, getD, take, drop, drop-of-length-le, length-drop, length-take}
+use lib.ListN.{length, getD, take, drop, drop-of-length-le, length-drop}
 use lib.Seq.{drop-cons, drop-drop, take-all}
 use borrow.Author.Tests.{eq-eqb, ne-eqb, lt-ltb, le-ltb}
-use Rattle.arith.proofs.Tests.{clash, and-right}
-use Rattle.text.specs.Text.{Line, longer, parted, asLines, textLines, fields, is, begins}
+use Rattle.text.specs.Text.{Line, longer, parted, asLines, textLines}
 use Rattle.text.specs.Spelling.{upTo}
 
 -- ---- the next x, from a place on
@@ -44,7 +43,7 @@ module _ {x : ℕ} {s : List ℕ} {at i : ℕ} (n : NoneUpTo x s at i) where
   pub next-nowhere : length s ≤ i → i ≡ at + upTo x (drop at s)
   next-nowhere h = omega (arith, n .passed, no-x x s i h)
 
-pub upTo-le : (x : ℕ) (s : List ℕ) → upTo x s ≤ length s
+upTo-le : (x : ℕ) (s : List ℕ) → upTo x s ≤ length s
 unfolding upTo
 upTo-le x [] = omega arith
 upTo-le x (b ∷ s) = go (eqb b x) (upTo-le x s)
@@ -55,7 +54,7 @@ upTo-le x (b ∷ s) = go (eqb b x) (upTo-le x s)
 
 -- ---- the pieces between the bytes x
 
--- the pieces behind the first: none where there is no x
+-- the pieces after the first: none where there is no x
 abbrev pub laterPieces : ℕ → List ℕ → List (List ℕ)
 laterPieces x s = cond (ltb (upTo x s) (length s)) (parted x (drop (suc (upTo x s)) s)) []
 
@@ -73,10 +72,10 @@ unfolding parted upTo
 parted-first x [] = refl
 parted-first x (b ∷ s) = first-step (eqb b x) x b s (parted-first x s)
 
-pub parted-more : (x : ℕ) (s : List ℕ) → upTo x s < length s → parted x s ≡ take (upTo x s) s ∷ parted x (drop (suc (upTo x s)) s)
+parted-more : (x : ℕ) (s : List ℕ) → upTo x s < length s → parted x s ≡ take (upTo x s) s ∷ parted x (drop (suc (upTo x s)) s)
 parted-more x s h = parted-first x s ∙ rw (lt-ltb (upTo x s) (length s) h)
 
-pub parted-last : (x : ℕ) (s : List ℕ) → length s ≤ upTo x s → parted x s ≡ s ∷ []
+parted-last : (x : ℕ) (s : List ℕ) → length s ≤ upTo x s → parted x s ≡ s ∷ []
 parted-last x s h = parted-first x s ∙ rw (le-ltb (upTo x s) (length s) h, take-all (upTo x s) s h)
 
 -- the same at a place, where the next x is found at e, or the end is
@@ -96,11 +95,11 @@ module _ (x : ℕ) (s : List ℕ) (at e : ℕ) (h : at ≤ length s) (q : e ≡ 
 
 -- ---- lines
 
-pub no-line : textLines [] ≡ []
+no-line : textLines [] ≡ []
 unfolding textLines parted asLines
 no-line = refl
 
--- a piece with further pieces behind it, and the last piece
+-- a piece with further pieces after it, and the last piece
 pub line-before : (p rest : List ℕ) → asLines (p ∷ parted 10 rest) ≡ record { text = p; ended = true } ∷ textLines rest
 unfolding asLines textLines
 line-before p rest = rw (parted-first 10 rest)

@@ -1,10 +1,14 @@
--- How the code keeps an expression: a code for each node, in the first of 31 cells.
+-- How the code keeps an expression: a code for each node, in the first of some cells.
 use Prim.Native.Nat.{ℕ, _+_}
 use mathlib.Core.Path.{_≡_}
 use mathlib.Core.List.{List, map}
 use lib.ListN.{length, take}
 use Rattle.arith.specs.Trees.{Node, value, joining, postfix}
 use Rattle.peal.specs.Policies.{MinMax, smaller, larger, Expression}
+
+-- the cells for the codes of an expression
+abbrev pub codeCells : ℕ
+codeCells = 31
 
 -- 0 for `min`, 1 for `max`, n + 2 for policy n
 unfoldable pub codeOf : Node MinMax ℕ → ℕ

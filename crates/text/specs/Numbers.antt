@@ -8,20 +8,24 @@ use lib.IntN.{ℤ, pos, negsuc}
 use lib.ListN.{length}
 use Rattle.arith.specs.Options.{if_then_}
 
+-- the digit `0`
+abbrev pub zeroDigit : ℕ
+zeroDigit = 48
+
 -- the digits are bytes 48 to 57
 unfoldable pub isDigit : ℕ → Bool
-isDigit b = leb 48 b && leb b 57
+isDigit b = leb zeroDigit b && leb b 57
 
 -- the number n with further digits after it; nothing where a byte is no digit
 unfoldable pub withDigits : ℕ → List ℕ → Option ℕ
 withDigits n [] = some n
-withDigits n (b ∷ s) = if isDigit b then withDigits (n * 10 + (b - 48)) s
+withDigits n (b ∷ s) = if isDigit b then withDigits (n * 10 + (b - zeroDigit)) s
 
 -- 0 stands first only where it is the only digit
 unfoldable pub noLeadingZero : List ℕ → Bool
 noLeadingZero [] = true
 noLeadingZero (b ∷ []) = true
-noLeadingZero (b ∷ c ∷ s) = not (eqb b 48)
+noLeadingZero (b ∷ c ∷ s) = not (eqb b zeroDigit)
 
 -- one to six digits, no leading zero
 unfoldable pub natural : List ℕ → Option ℕ

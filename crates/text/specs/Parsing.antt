@@ -7,30 +7,32 @@ use lib.ListN.{length, take, drop, set}
 use Rattle.arith.specs.Trees.{joining, leaf}
 use Rattle.peal.specs.Policies.{MinMax, Expression}
 use Rattle.text.specs.Expressions.{mention, leadingJoin, leadingExpression, leadingPair, expression}
-use Rattle.text.specs.Codes.{codeOf, codesOf, HoldsCodes}
+use Rattle.text.specs.Codes.{codeCells, codeOf, codesOf, HoldsCodes}
+use Rattle.text.specs.LineMeaning.{fewestBefore}
 use Rattle.text.specs.declared.expressions.Join.{Join}
 use Rattle.text.specs.declared.expressions.Join.the-variants.{Code, NoJoin}
 use Rattle.text.specs.declared.expressions.Parsed.{Parsed}
 use Rattle.text.specs.declared.expressions.Parsed.the-variants.{Read, NoExpression}
 
--- before reading at a place of a line of at most 128 bytes, with n codes so far: after at least 6 bytes and 4 for each code,
--- so that 31 cells are enough
+-- before reading at a place of a line of at most 128 bytes, with n codes so far: after the fewest bytes and 4 for each
+-- code, so that the cells are enough
 pub record CanRead (line : List ℕ) (at n : ℕ) : Type 0 where
   pub short : length line ≤ 128
   pub within : at ≤ length line
-  pub room : 4 * n + 6 ≤ at
+  pub room : 4 * n + fewestBefore ≤ at
 
 -- after reading up to `end`: the codes added to the n so far; each code took 4 bytes, all together up to `slack` fewer
-pub record HasRead (line : List ℕ) (at n : ℕ) (before : List ℕ) (end count : ℕ) (codes added : List ℕ) (slack : ℕ) : Type 0 where
+pub record HasRead (line : List ℕ) (at n : ℕ) (before : List ℕ) (end count : ℕ) (codes added : List ℕ) (slack : ℕ)
+    : Type 0 where
   pub within : end ≤ length line
   pub forward : at < end
   pub room : 4 * count + at ≤ 4 * n + end + slack
   pub counted : count ≡ n + length added
   pub same : take count codes ≡ take n before ++ added
 
--- what putting a code promises: it is code n of the cells, which are 31
+-- what putting a code promises: it is code n of the cells
 pub record CodePut (before : List ℕ) (n code end : ℕ) (r : Parsed) (codes : List ℕ) : Type 0 where
-  pub cells : length before ≡ 31
+  pub cells : length before ≡ codeCells
   pub put : codes ≡ set before n code
   pub told : r ≡ Read end (n + 1)
 
@@ -50,7 +52,7 @@ unfoldable pub MentionRead : List ℕ → ℕ → ℕ → List ℕ → Parsed �
 MentionRead line at n before (Read end count) codes = PolicyRead line at n before end count codes
 MentionRead line at n before NoExpression codes = mention (drop at line) ≡ none
 
--- what the definition says of an expression at a place, at every bound of the nesting that is enough for the bytes unread
+-- what the definition says of an expression at a place, at every bound of the nesting that is enough for what is unread
 abbrev pub Leads : List ℕ → ℕ → Option (Expression × List ℕ) → Type 0
 Leads line at o = (k : ℕ) → length line ≤ k + at → leadingExpression k (drop at line) ≡ o
 
@@ -84,7 +86,7 @@ pub record WholeRead (line : List ℕ) (at count : ℕ) (codes : List ℕ) : Typ
   pub tree : Expression
   pub found : expression (drop at line) ≡ some tree
   pub kept : HoldsCodes codes count tree
-  pub few : count ≤ 31
+  pub few : count ≤ codeCells
 
 -- what reading an expression from a place to the line's end promises
 unfoldable pub ExpressionRead : List ℕ → ℕ → Parsed → List ℕ → Type 0

@@ -40,9 +40,13 @@ asLines (p ∷ q ∷ ps) = record { text = p; ended = true } ∷ asLines (q ∷ 
 unfoldable pub textLines : List ℕ → List Line
 textLines s = asLines (parted 10 s)
 
--- the fields of a line, parted by the space, byte 32
+-- the space
+abbrev pub space : ℕ
+space = 32
+
+-- the fields of a line, parted by the space
 unfoldable pub fields : List ℕ → List (List ℕ)
-fields s = parted 32 s
+fields s = parted space s
 
 -- s is the word w
 unfoldable pub is : List ℕ → List ℕ → Bool

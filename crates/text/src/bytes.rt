@@ -1,10 +1,10 @@
 // Bytes of a line or a book: where a mark stands next, and which word stands at a place.
-// For this crate only: no other can name these functions, and each call is proved to meet its condition.
 ghost use mathlib.Core.Path.{_≡_};
 ghost use Prim.Native.Nat.{_+_, _≤_};
 ghost use mathlib.Core.List.{[], _∷_};
 ghost use lib.ListN.{length, drop};
-ghost use Rattle.text.specs.Text.{begins as beginsWith, is as isWord};
+ghost use Rattle.text.specs.Text.{space, begins as beginsWith, is as isWord};
+ghost use Rattle.text.specs.Numbers.{isDigit};
 ghost use Rattle.text.specs.Expressions.{digitCount};
 ghost use Rattle.text.specs.Spelling.{upTo};
 
@@ -43,7 +43,7 @@ pub fn next_byte(s: &[u8], at: usize, x: u8) -> usize
 // The end of the field that begins at `at`: the next space, or the end.
 pub fn field_end(line: &[u8], at: usize) -> usize
     requires { ⌜ at ≤ length (now line) ⌝ }
-    ensures { λ r. ⌜ r ≡ at + upTo 32 (drop at (now (line .entry))) ⌝ }
+    ensures { λ r. ⌜ r ≡ at + upTo space (drop at (now (line .entry))) ⌝ }
 {
     next_byte(line, at, b' ')
 }
@@ -55,16 +55,14 @@ pub fn begins(s: &[u8], at: usize, word: &[u8]) -> bool
     let mut i = 0;
     let mut j = at;
     while i < word.len() {
-        if j < s.len() {
-            if s[j] == word[i] {
-                i += 1;
-                j += 1;
-            } else {
-                return false;
-            }
-        } else {
+        if s.len() <= j {
             return false;
         }
+        if s[j] != word[i] {
+            return false;
+        }
+        i += 1;
+        j += 1;
     }
     true
 }
@@ -73,18 +71,27 @@ pub fn begins(s: &[u8], at: usize, word: &[u8]) -> bool
 pub fn has_byte(s: &[u8], at: usize, x: u8) -> bool
     ensures { λ r. ⌜ r ≡ beginsWith (x ∷ []) (drop at (now (s .entry))) ⌝ }
 {
-    if at < s.len() { s[at] == x } else { false }
+    if s.len() <= at {
+        return false;
+    }
+    s[at] == x
 }
 
 // The field is the word.
 pub fn is_word(field: &[u8], word: &[u8]) -> bool
     ensures { λ r. ⌜ r ≡ isWord (now (word .entry)) (now (field .entry)) ⌝ }
 {
-    if field.len() == word.len() {
-        begins(field, 0, word)
-    } else {
-        false
+    if field.len() != word.len() {
+        return false;
     }
+    begins(field, 0, word)
+}
+
+// A digit.
+pub fn is_digit(byte: u8) -> bool
+    ensures { λ r. ⌜ r ≡ isDigit byte ⌝ }
+{
+    b'0' <= byte && byte <= b'9'
 }
 
 // The end of the digits that stand at `at`.
@@ -94,11 +101,7 @@ pub fn digits_end(s: &[u8], at: usize) -> usize
 {
     let mut i = at;
     while i < s.len() {
-        let b = s[i];
-        if b < b'0' {
-            return i;
-        }
-        if b'9' < b {
+        if !is_digit(s[i]) {
             return i;
         }
         i += 1;

@@ -1,5 +1,4 @@
 // Expressions of a book, read into codes.
-// For this crate only: no other can name these functions, and each call is proved to meet its condition.
 use crate::bytes::begins;
 use crate::bytes::digits_end;
 use crate::bytes::has_byte;
@@ -7,12 +6,15 @@ use crate::numbers::NaturalRead;
 use crate::numbers::read_natural;
 ghost use Prim.Native.Nat.{_≤_, _<_};
 ghost use lib.ListN.{length, drop};
-ghost use Rattle.text.specs.Parsing.{CanRead, JoinRead as JoinTold, CodePut, MentionRead, LeadingRead, PairRead, ExpressionRead};
+ghost use Rattle.text.specs.Codes.{codeCells};
+ghost use Rattle.text.specs.Parsing.{CanRead, CodePut, JoinRead, MentionRead};
+ghost use Rattle.text.specs.Parsing.{LeadingRead, PairRead, ExpressionRead};
 
-// The most codes that an expression of a line can have.
+// The most codes that an expression of a line can have. The lent cells are as many.
 pub const CODE_COUNT: usize = 31;
 
-// A code stands for each node, in the order left, right, join: for `min`, for `max`, and for policy 0. Policy n has n more.
+// There is a code for each node, in the order left, right, join: these are for `min`, `max` and policy 0, and policy n has
+// one that is n more.
 const MIN_CODE: u32 = 0;
 
 const MAX_CODE: u32 = 1;
@@ -34,9 +36,9 @@ enum Join {
     NoJoin,
 }
 
-// One code more, as code n; what was read ends at `end`. Lent on as a slice, the cells are known to be so many.
+// One code more, as code n; what was read ends at `end`. As a slice the cells are known to be so many.
 fn put_code(codes: &mut [u32; CODE_COUNT], n: usize, code: u32, end: usize) -> Parsed
-    requires { ⌜ n < 31 ⌝ }
+    requires { ⌜ n < codeCells ⌝ }
     ensures { λ r. ⌜ CodePut (now (codes .entry)) n code end r (now (codes .exit)) ⌝ }
 {
     let cells = &mut codes[..];
@@ -49,7 +51,7 @@ fn put_code(codes: &mut [u32; CODE_COUNT], n: usize, code: u32, end: usize) -> P
 
 // `min` or `max` at `at`.
 fn read_join(line: &[u8], at: usize) -> Join
-    ensures { λ r. ⌜ JoinTold (drop at (now (line .entry))) r ⌝ }
+    ensures { λ r. ⌜ JoinRead (drop at (now (line .entry))) r ⌝ }
 {
     if begins(line, at, b"min") {
         return Join::Code(MIN_CODE);
@@ -62,7 +64,7 @@ fn read_join(line: &[u8], at: usize) -> Join
 
 // The policy number at `from`, after its `p`. Its code is put after the n so far.
 fn read_mention(line: &[u8], from: usize, codes: &mut [u32; CODE_COUNT], n: usize) -> Parsed
-    requires { ⌜ (from ≤ length (now line)) × (n < 31) ⌝ }
+    requires { ⌜ (from ≤ length (now line)) × (n < codeCells) ⌝ }
     ensures { λ r. ⌜ MentionRead (now (line .entry)) from n (now (codes .entry)) r (now (codes .exit)) ⌝ }
 {
     let end = digits_end(line, from);

@@ -1,8 +1,7 @@
 // One line of a book, by its fields.
 ghost use mathlib.Core.List.{[], _∷_};
-ghost use mathlib.Core.Path.{_≡_};
-ghost use Rattle.text.specs.Forms.{form};
-ghost use Rattle.text.specs.LineMeaning.{lineMeaning, StartIn, FieldsSay, FourSay};
+ghost use Rattle.text.specs.Forms.{fullPolicy, ruleLine, exclusionLine, formOf, form};
+ghost use Rattle.text.specs.LineMeaning.{Means, MeansAnywhere, FourMean};
 use super::bytes::field_end;
 use super::bytes::is_word;
 use super::keywords::OperatorRead;
@@ -47,7 +46,7 @@ pub enum LineRead {
 
 // `o`.
 fn one_field(kind: &[u8]) -> LineRead
-    ensures { λ r. ⌜ FieldsSay (now (kind .entry) ∷ []) r ⌝ }
+    ensures { λ r. ⌜ MeansAnywhere r (formOf (now (kind .entry) ∷ [])) ⌝ }
 {
     if is_word(kind, b"o") {
         return LineRead::Good(Line::OldZero);
@@ -57,7 +56,7 @@ fn one_field(kind: &[u8]) -> LineRead
 
 // `p OP`.
 fn two_fields(kind: &[u8], second: &[u8]) -> LineRead
-    ensures { λ r. ⌜ FieldsSay (now (kind .entry) ∷ now (second .entry) ∷ []) r ⌝ }
+    ensures { λ r. ⌜ MeansAnywhere r (formOf (now (kind .entry) ∷ now (second .entry) ∷ [])) ⌝ }
 {
     if is_word(kind, b"p") {
         let OperatorRead::Is(operator) = read_operator(second) else {
@@ -68,46 +67,67 @@ fn two_fields(kind: &[u8], second: &[u8]) -> LineRead
     LineRead::NoForm
 }
 
+// `p OP D`, by its second and third field.
+fn read_policy(second: &[u8], third: &[u8]) -> LineRead
+    ensures { λ r. ⌜ MeansAnywhere r (fullPolicy (now (second .entry)) (now (third .entry))) ⌝ }
+{
+    let OperatorRead::Is(operator) = read_operator(second) else {
+        return LineRead::NoForm;
+    };
+    let NumberRead::Number(default) = read_number(third) else {
+        return LineRead::NoForm;
+    };
+    LineRead::Good(Line::Policy { operator, default })
+}
+
+// `r S V`.
+fn read_rule(second: &[u8], third: &[u8]) -> LineRead
+    ensures { λ r. ⌜ MeansAnywhere r (ruleLine (now (second .entry)) (now (third .entry))) ⌝ }
+{
+    let NaturalRead::Natural(signal) = read_natural(second) else {
+        return LineRead::NoForm;
+    };
+    let NumberRead::Number(score) = read_number(third) else {
+        return LineRead::NoForm;
+    };
+    LineRead::Good(Line::Rule { signal, score })
+}
+
+// `x A B`.
+fn read_exclusion(second: &[u8], third: &[u8]) -> LineRead
+    ensures { λ r. ⌜ MeansAnywhere r (exclusionLine (now (second .entry)) (now (third .entry))) ⌝ }
+{
+    let NaturalRead::Natural(first) = read_natural(second) else {
+        return LineRead::NoForm;
+    };
+    let NaturalRead::Natural(other) = read_natural(third) else {
+        return LineRead::NoForm;
+    };
+    LineRead::Good(Line::Exclusion {
+        first: first,
+        second: other,
+    })
+}
+
 // `p OP D`, `r S V`, or `x A B`.
 fn three_fields(kind: &[u8], second: &[u8], third: &[u8]) -> LineRead
-    ensures { λ r. ⌜ FieldsSay (now (kind .entry) ∷ now (second .entry) ∷ now (third .entry) ∷ []) r ⌝ }
+    ensures { λ r. ⌜ MeansAnywhere r (formOf (now (kind .entry) ∷ now (second .entry) ∷ now (third .entry) ∷ [])) ⌝ }
 {
     if is_word(kind, b"p") {
-        let OperatorRead::Is(operator) = read_operator(second) else {
-            return LineRead::NoForm;
-        };
-        let NumberRead::Number(default) = read_number(third) else {
-            return LineRead::NoForm;
-        };
-        return LineRead::Good(Line::Policy { operator, default });
+        return read_policy(second, third);
     }
     if is_word(kind, b"r") {
-        let NaturalRead::Natural(signal) = read_natural(second) else {
-            return LineRead::NoForm;
-        };
-        let NumberRead::Number(score) = read_number(third) else {
-            return LineRead::NoForm;
-        };
-        return LineRead::Good(Line::Rule { signal, score });
+        return read_rule(second, third);
     }
     if is_word(kind, b"x") {
-        let NaturalRead::Natural(first) = read_natural(second) else {
-            return LineRead::NoForm;
-        };
-        let NaturalRead::Natural(other) = read_natural(third) else {
-            return LineRead::NoForm;
-        };
-        return LineRead::Good(Line::Exclusion {
-            first: first,
-            second: other,
-        });
+        return read_exclusion(second, third);
     }
     LineRead::NoForm
 }
 
 // `c T < E`, or `c T >= E`, where E is what stands from `from` on: after these three fields and a space after each.
 fn four_fields(kind: &[u8], second: &[u8], third: &[u8], from: usize) -> LineRead
-    ensures { λ r. ⌜ FourSay (now (kind .entry)) (now (second .entry)) (now (third .entry)) from r ⌝ }
+    ensures { λ r. ⌜ FourMean (now (kind .entry)) (now (second .entry)) (now (third .entry)) from r ⌝ }
 {
     if is_word(kind, b"c") {
         let NumberRead::Number(threshold) = read_number(second) else {
@@ -125,10 +145,10 @@ fn four_fields(kind: &[u8], second: &[u8], third: &[u8], from: usize) -> LineRea
     LineRead::NoForm
 }
 
-// A line without its end, by how many fields it has. A condition's expression begins after six bytes at least, which bounds how
-// many codes it can have.
+// A line without its end, by how many fields it has. A condition's expression begins after six bytes at least, which
+// bounds how many codes it can have.
 pub fn read_line(line: &[u8]) -> LineRead
-    ensures { λ r. ⌜ (lineMeaning (now (line .entry)) r ≡ form (now (line .entry))) × StartIn (now (line .entry)) r ⌝ }
+    ensures { λ r. ⌜ Means (now (line .entry)) r (form (now (line .entry))) ⌝ }
 {
     let n = line.len();
     let kind_end = field_end(line, 0);

@@ -19,11 +19,23 @@ abbrev μ-loop : tie.MeasureT-loop
 loop-holds : tie.Need-loop-holds Inv-loop μ-loop
 loop-holds c = search needs
 
+returns : tie.Need-returns Inv-loop μ-loop
+returns c =
+    let l = c .before .before in
+    let a = l .before .args in
+    sym (word-cut (now (a .word)) (now (a .s)) (l .loop .i) (l .loop .j) (c .before .loop-test .taken) (c .if1 .taken)) ∙ l .loop .inv .1
+
 shared-slice-read-if2 : tie.Need-shared-slice-read-if2 Inv-loop μ-loop
 shared-slice-read-if2 c = omega arith
 
 shared-slice-read-if2-2 : tie.Need-shared-slice-read-if2-2 Inv-loop μ-loop
 shared-slice-read-if2-2 c = omega arith
+
+returns-2 : tie.Need-returns-2 Inv-loop μ-loop
+returns-2 c =
+    let l = c .before .before .before .before .before in
+    let a = l .before .args in
+    sym (word-differs (now (a .word)) (now (a .s)) (l .loop .i) (l .loop .j) (c .before .before .before .before .loop-test .taken) (c .before .before .before .if1 .left) (c .if2 .taken)) ∙ l .loop .inv .1
 
 add-i : tie.Need-add-i Inv-loop μ-loop
 add-i c = omega arith
@@ -39,20 +51,8 @@ loop-again c =
     let l = c .before .before .before .before .before in
     let a = l .before .args in (
       omega arith,
-      sym (word-more (now (a .word)) (now (a .s)) (l .loop .i) (l .loop .j) (c .before .before .before .before .loop-test .taken) (c .before .before .before .if1 .taken) (c .if2 .taken)) ∙ l .loop .inv .1,
+      sym (word-more (now (a .word)) (now (a .s)) (l .loop .i) (l .loop .j) (c .before .before .before .before .loop-test .taken) (c .before .before .before .if1 .left) (c .if2 .left)) ∙ l .loop .inv .1,
     )
-
-returns : tie.Need-returns Inv-loop μ-loop
-returns c =
-    let l = c .before .before .before .before .before in
-    let a = l .before .args in
-    sym (word-differs (now (a .word)) (now (a .s)) (l .loop .i) (l .loop .j) (c .before .before .before .before .loop-test .taken) (c .before .before .before .if1 .taken) (c .if2 .left)) ∙ l .loop .inv .1
-
-returns-2 : tie.Need-returns-2 Inv-loop μ-loop
-returns-2 c =
-    let l = c .before .before in
-    let a = l .before .args in
-    sym (word-cut (now (a .word)) (now (a .s)) (l .loop .i) (l .loop .j) (c .before .loop-test .taken) (c .if1 .left)) ∙ l .loop .inv .1
 
 returns-3 : tie.Need-returns-3 Inv-loop μ-loop
 returns-3 c =
@@ -67,12 +67,12 @@ begins-spec =
     Inv-loop
     μ-loop
     loop-holds
+    returns
     shared-slice-read-if2
     shared-slice-read-if2-2
+    returns-2
     add-i
     add-j
     loop-less
     loop-again
-    returns
-    returns-2
     returns-3)

@@ -1,12 +1,13 @@
 -- `text::bytes::digits_end`: only digits stand between `at` and i, so that the count from `at` is what was passed and the count from i.
 use Prim.Native.Nat.{_+_, _-_, _≤_}
-use mathlib.Core.Path.{_≡_}
+use mathlib.Core.Path.{_≡_, sym, _∙_}
 use native.Mathlib.Omega.{arith}
 use borrow.Author.Needs.{needs}
+use borrow.Author.Tests.{not-true, not-false}
 use denote.Ref.{now}
 use lib.ListN.{length, drop}
 use Rattle.text.specs.Expressions.{digitCount}
-use Rattle.text.proofs.NumberLaws.{count-low, count-high, count-more, count-done}
+use Rattle.text.proofs.NumberLaws.{count-none, count-more, count-done}
 use Rattle.text.proofs.bytes.digits_end.Statement.{statement}
 use Rattle.text.proofs.bytes.digits_end.Tie as tie
 
@@ -19,18 +20,16 @@ abbrev μ-loop : tie.MeasureT-loop
 loop-holds : tie.Need-loop-holds Inv-loop μ-loop
 loop-holds c = search needs
 
-shared-slice-read-b : tie.Need-shared-slice-read-b Inv-loop μ-loop
-shared-slice-read-b c = omega arith
+shared-slice-read-is-digit : tie.Need-shared-slice-read-is-digit Inv-loop μ-loop
+shared-slice-read-is-digit c = omega arith
+
+is-digit-requires : tie.Need-is-digit-requires Inv-loop μ-loop
+is-digit-requires c κs = search needs
 
 returns : tie.Need-returns Inv-loop μ-loop
 returns c =
-    let l = c .before .before .before in
-    omega (arith, count-low (now (l .before .args .s)) (l .loop .i) (c .before .before .loop-test .taken) (c .if1 .taken))
-
-returns-2 : tie.Need-returns-2 Inv-loop μ-loop
-returns-2 c =
     let l = c .before .before .before .before in
-    omega (arith, count-high (now (l .before .args .s)) (l .loop .i) (c .before .before .before .loop-test .taken) (c .if2 .taken))
+    omega (arith, count-none (now (l .before .before .args .s)) (l .loop .i) (c .before .before .before .loop-test .taken) (sym (c .before .is-digit .ensures) ∙ not-true _ (c .if1 .taken)))
 
 add-i : tie.Need-add-i Inv-loop μ-loop
 add-i c = omega arith
@@ -41,12 +40,12 @@ loop-less c = omega arith
 loop-again : tie.Need-loop-again Inv-loop μ-loop
 loop-again c =
     let l = c .before .before .before .before in
-    (omega arith, omega (arith, count-more (now (l .before .args .s)) (l .loop .i) (c .before .before .before .loop-test .taken) (c .before .if1 .left) (c .if2 .left)))
+    (omega arith, omega (arith, count-more (now (l .before .before .args .s)) (l .loop .i) (c .before .before .before .loop-test .taken) (sym (c .before .is-digit .ensures) ∙ not-false _ (c .if1 .left))))
 
-returns-3 : tie.Need-returns-3 Inv-loop μ-loop
-returns-3 c =
+returns-2 : tie.Need-returns-2 Inv-loop μ-loop
+returns-2 c =
     let l = c .before in
-    omega (arith, count-done (now (l .before .args .s)) (l .loop .i) (c .loop-test .left))
+    omega (arith, count-done (now (l .before .before .args .s)) (l .loop .i) (c .loop-test .left))
 
 pub digits-end-spec : {M : Type 1} → statement M
 digits-end-spec =
@@ -55,10 +54,10 @@ digits-end-spec =
     Inv-loop
     μ-loop
     loop-holds
-    shared-slice-read-b
+    shared-slice-read-is-digit
+    is-digit-requires
     returns
-    returns-2
     add-i
     loop-less
     loop-again
-    returns-3)
+    returns-2)

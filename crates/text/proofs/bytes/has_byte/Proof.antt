@@ -4,14 +4,14 @@ use borrow.Author.Needs.{needs}
 use Rattle.text.proofs.bytes.has_byte.Statement.{statement}
 use Rattle.text.proofs.bytes.has_byte.Tie as tie
 
+returns : tie.Need-returns
+returns c = no-byte _ _ _ (c .if1 .taken)
+
 shared-slice-read-result : tie.Need-shared-slice-read-result
 shared-slice-read-result c = search needs
 
-returns : tie.Need-returns
-returns c = byte-there _ _ _ (c .before .if1 .taken)
-
 returns-2 : tie.Need-returns-2
-returns-2 c = no-byte _ _ _ (c .if1 .left)
+returns-2 c = byte-there _ _ _ (c .before .if1 .left)
 
 pub has-byte-spec : {M : Type 1} → statement M
-has-byte-spec = tie.close (tie.spec shared-slice-read-result returns returns-2)
+has-byte-spec = tie.close (tie.spec returns shared-slice-read-result returns-2)

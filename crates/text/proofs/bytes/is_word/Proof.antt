@@ -5,14 +5,14 @@ use borrow.Author.Needs.{needs}
 use Rattle.text.proofs.bytes.is_word.Statement.{statement}
 use Rattle.text.proofs.bytes.is_word.Tie as tie
 
+returns : tie.Need-returns
+returns c = other-length-is _ _ (c .if1 .taken)
+
 begins-requires : tie.Need-begins-requires
 begins-requires c κs = search needs
 
-returns : tie.Need-returns
-returns c = c .begins .ensures ∙ same-length-is _ _ (c .before .if1 .taken)
-
 returns-2 : tie.Need-returns-2
-returns-2 c = other-length-is _ _ (c .if1 .left)
+returns-2 c = c .begins .ensures ∙ same-length-is _ _ (c .before .if1 .left)
 
 pub is-word-spec : {M : Type 1} → statement M
-is-word-spec = tie.close (tie.spec begins-requires returns returns-2)
+is-word-spec = tie.close (tie.spec returns begins-requires returns-2)

@@ -4,6 +4,7 @@ use mathlib.Core.Path.{sym, ap, _∙_}
 use native.Mathlib.Omega.{arith}
 use borrow.Author.Needs.{needs}
 use denote.Ref.{now}
+use Rattle.text.specs.Text.{space}
 use Rattle.text.specs.Forms.{formOf, form}
 use Rattle.text.proofs.TextLaws.{end-within}
 use Rattle.text.proofs.FieldLaws.{Cut, cut-on, first-length, one-field, two-fields, three-fields, four-fields, five-fields, four-start}
@@ -66,7 +67,7 @@ part-second-start : tie.Need-part-second-start
 part-second-start c = search needs
 
 part-second-end : tie.Need-part-second-end
-part-second-end c = end-within 32 _ _ _ (cut-on _ _ _ (first (c .before .before))) (c .field-end2 .ensures)
+part-second-end c = end-within space _ _ _ (cut-on _ _ _ (first (c .before .before))) (c .field-end2 .ensures)
 
 two-fields-requires : tie.Need-two-fields-requires
 two-fields-requires c κs = search needs
@@ -93,7 +94,7 @@ part-third-start : tie.Need-part-third-start
 part-third-start c = search needs
 
 part-third-end : tie.Need-part-third-end
-part-third-end c = end-within 32 _ _ _ (cut-on _ _ _ (second (c .before))) (c .field-end3 .ensures)
+part-third-end c = end-within space _ _ _ (cut-on _ _ _ (second (c .before))) (c .field-end3 .ensures)
 
 three-fields-requires : tie.Need-three-fields-requires
 three-fields-requires c κs = search needs

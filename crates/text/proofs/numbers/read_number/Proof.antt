@@ -8,35 +8,60 @@ use denote.Ref.{now}
 use lib.ListN.{length, take, drop}
 use Rattle.text.specs.Numbers.{natural, positive, negative, number}
 use Rattle.text.specs.Spelling.{naturalMeaning}
-use Rattle.text.proofs.NumberLaws.{natural-small, empty-no-number, minus-number, plain-number, minus-zero, minus-some, minus-none, plain-some, plain-none, pos-fits, pos-read, minus-fits, minus-read}
+use Rattle.text.proofs.NumberLaws.{natural-small, empty-no-number, minus-number, plain-number, minus-some, pos-fits, pos-read, minus-fits, minus-read}
 use Rattle.text.proofs.numbers.read_number.Statement.{statement}
 use Rattle.text.proofs.numbers.read_number.Tie as tie
 
--- the field, and what stands behind its first byte
+-- the field, and what stands after its first byte
 abbrev whole : tie.After-shared-slice-known2 → List ℕ
 whole c = now (c .before .before .before .args .field)
 
-abbrev behind : tie.After-shared-slice-known2 → List ℕ
-behind c = take (length (whole c) - 1) (drop 1 (whole c))
+abbrev tail : tie.After-shared-slice-known2 → List ℕ
+tail c = take (length (whole c) - 1) (drop 1 (whole c))
 
--- the digits' number, behind a `-` and without one
-found : (c : tie.After-n) → natural (behind (c .before .before .before .before .before)) ≡ some (c .n .given .0 .0)
-found c = sym (c .before .before .read-natural .ensures) ∙ ap naturalMeaning (c .n .given .1)
+-- without a `-`, and with one
+plain : (c : tie.Then2) → number (whole (c .before)) ≡ positive (natural (whole (c .before)))
+plain c = plain-number _ (c .before .before .if1 .left) (c .if2 .taken)
 
-found-2 : (c : tie.After-n2) → natural (whole (c .before .before .before .before)) ≡ some (c .n2 .given .0 .0)
-found-2 c = sym (c .before .before .read-natural2 .ensures) ∙ ap naturalMeaning (c .n2 .given .1)
+minus : (c : tie.Else2) → number (whole (c .before)) ≡ negative (natural (tail (c .before)))
+minus c = minus-number _ (c .before .before .if1 .left) (c .if2 .left)
 
-minus : (c : tie.Then2) → number (whole (c .before)) ≡ negative (natural (behind (c .before)))
-minus c = minus-number _ (c .before .before .if1 .left) (c .if2 .taken)
+-- the digits' number without a `-`, and after one
+value : (c : tie.After-value) → natural (whole (c .before .before .before .before)) ≡ some (c .value .given .0 .0)
+value c = sym (c .before .before .read-natural .ensures) ∙ ap naturalMeaning (c .value .given .1)
 
-plain : (c : tie.Else2) → number (whole (c .before)) ≡ positive (natural (whole (c .before)))
-plain c = plain-number _ (c .before .before .if1 .left) (c .if2 .left)
+size : (c : tie.After-size) → natural (tail (c .before .before .before .before .before)) ≡ some (c .size .given .0 .0)
+size c = sym (c .before .before .read-natural2 .ensures) ∙ ap naturalMeaning (c .size .given .1)
 
 returns : tie.Need-returns
 returns c = sym (empty-no-number _ (c .if1 .taken))
 
 shared-slice-read-if2 : tie.Need-shared-slice-read-if2
 shared-slice-read-if2 c = search needs
+
+read-natural-requires : tie.Need-read-natural-requires
+read-natural-requires c κs = search needs
+
+enum-known-value : tie.Need-enum-known-value
+enum-known-value c = search needs
+
+enum-told : tie.Need-enum-told
+enum-told c = search needs
+
+returns-2 : tie.Need-returns-2
+unfolding positive
+returns-2 c =
+    let read = c .before .before in
+    sym (plain (read .before) ∙ ap positive (sym (read .read-natural .ensures) ∙ ap naturalMeaning (c .enum-told .given .1)))
+
+cast-t9 : tie.Need-cast-t9
+cast-t9 c = pos-fits _ (natural-small _ _ (value (c .before)))
+
+returns-3 : tie.Need-returns-3
+unfolding positive
+returns-3 c =
+    let e = value (c .before) in
+    ap some (pos-read _ (natural-small _ _ e)) ∙ sym (plain (c .before .before .before .before) ∙ ap positive e)
 
 sub-read-natural : tie.Need-sub-read-natural
 sub-read-natural c = search needs
@@ -47,51 +72,37 @@ part-read-natural-start c = search needs
 part-read-natural-end : tie.Need-part-read-natural-end
 part-read-natural-end c = search needs
 
-read-natural-requires : tie.Need-read-natural-requires
-read-natural-requires c κs = search needs
-
-enum-known-n : tie.Need-enum-known-n
-enum-known-n c = search needs
-
-cast-t17 : tie.Need-cast-t17
-cast-t17 c = pos-fits _ (natural-small _ _ (found (c .before .before)))
-
-sub-t18 : tie.Need-sub-t18
-sub-t18 c = minus-fits _ (natural-small _ _ (found (c .before .before)))
-
-enum-told : tie.Need-enum-told
-enum-told c = search needs
-
 read-natural-requires-2 : tie.Need-read-natural-requires-2
 read-natural-requires-2 c κs = search needs
 
-enum-known-n-2 : tie.Need-enum-known-n-2
-enum-known-n-2 c = search needs
-
-cast-t21 : tie.Need-cast-t21
-cast-t21 c = pos-fits _ (natural-small _ _ (found-2 (c .before)))
+enum-known-size : tie.Need-enum-known-size
+enum-known-size c = search needs
 
 enum-told-2 : tie.Need-enum-told-2
 enum-told-2 c = search needs
 
-returns-2 : tie.Need-returns-2
-returns-2 c = sym (minus (c .before .before .before .before .before .before) ∙ minus-zero _ _ (found (c .before .before)) (c .if3 .taken))
-
-returns-3 : tie.Need-returns-3
-returns-3 c =
-    let e = found (c .before .before) in
-    ap some (minus-read _ (natural-small _ _ e)) ∙ sym (minus (c .before .before .before .before .before .before) ∙ minus-some _ _ e (c .if3 .left))
-
 returns-4 : tie.Need-returns-4
-returns-4 c = sym (minus (c .before .before .before .before) ∙ minus-none _ (sym (c .before .before .read-natural .ensures) ∙ ap naturalMeaning (c .enum-told .given .1)))
+unfolding negative
+returns-4 c =
+    let read = c .before .before in
+    sym (minus (read .before .before) ∙ ap negative (sym (read .read-natural2 .ensures) ∙ ap naturalMeaning (c .enum-told2 .given .1)))
 
 returns-5 : tie.Need-returns-5
+unfolding negative
 returns-5 c =
-    let e = found-2 (c .before) in
-    ap some (pos-read _ (natural-small _ _ e)) ∙ sym (plain (c .before .before .before .before) ∙ plain-some _ _ e)
+    let s = c .before .before in
+    sym (minus (s .before .before .before .before) ∙ ap negative (size s ∙ ap some (c .if3 .taken)))
+
+cast-t14 : tie.Need-cast-t14
+cast-t14 c = pos-fits _ (natural-small _ _ (size (c .before .before)))
+
+sub-t15 : tie.Need-sub-t15
+sub-t15 c = minus-fits _ (natural-small _ _ (size (c .before .before)))
 
 returns-6 : tie.Need-returns-6
-returns-6 c = sym (plain (c .before .before .before) ∙ plain-none _ (sym (c .before .before .read-natural2 .ensures) ∙ ap naturalMeaning (c .enum-told2 .given .1)))
+returns-6 c =
+    let s = c .before .before in
+    ap some (minus-read _ (natural-small _ _ (size s))) ∙ sym (minus (s .before .before .before .before) ∙ ap negative (size s) ∙ minus-some _ (c .if3 .left))
 
 pub read-number-spec : {M : Type 1} → statement M
 read-number-spec =
@@ -99,20 +110,20 @@ read-number-spec =
     (tie.spec
     returns
     shared-slice-read-if2
+    read-natural-requires
+    enum-known-value
+    enum-told
+    returns-2
+    cast-t9
+    returns-3
     sub-read-natural
     part-read-natural-start
     part-read-natural-end
-    read-natural-requires
-    enum-known-n
-    cast-t17
-    sub-t18
-    enum-told
     read-natural-requires-2
-    enum-known-n-2
-    cast-t21
+    enum-known-size
     enum-told-2
-    returns-2
-    returns-3
     returns-4
     returns-5
+    cast-t14
+    sub-t15
     returns-6)

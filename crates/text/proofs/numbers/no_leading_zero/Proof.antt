@@ -1,0 +1,17 @@
+-- `text::numbers::no_leading_zero`: the tests are those of the definition.
+use borrow.Author.Needs.{needs}
+use Rattle.text.proofs.NumberLaws.{short-no-zero, first-no-zero}
+use Rattle.text.proofs.numbers.no_leading_zero.Statement.{statement}
+use Rattle.text.proofs.numbers.no_leading_zero.Tie as tie
+
+returns : tie.Need-returns
+returns c = short-no-zero _ (c .if1 .taken)
+
+shared-slice-read-result : tie.Need-shared-slice-read-result
+shared-slice-read-result c = search needs
+
+returns-2 : tie.Need-returns-2
+returns-2 c = first-no-zero _ (c .before .if1 .left)
+
+pub no-leading-zero-spec : {M : Type 1} → statement M
+no-leading-zero-spec = tie.close (tie.spec returns shared-slice-read-result returns-2)
