@@ -39,7 +39,7 @@ read-back {z = z} f e = toZ-ofZ w32 z f ∙ e
 pub cast-fits : {w : Width} {z : ℤ} {n : ℕ} → z ≡ pos n → Fits w n → T (nonNeg z) × Fits w (natAbs z)
 cast-fits {w = w} e f = subst (λ (y : ℤ). T (nonNeg y) × Fits w (natAbs y)) (sym e) (tt, f)
 
-pub pos-same : {m n : ℕ} → pos m ≡ pos n → m ≡ n
+pos-same : {m n : ℕ} → pos m ≡ pos n → m ≡ n
 pos-same e = ap natAbs e
 
 -- ---- the numbers of operators and senses, as they are matched
@@ -101,6 +101,10 @@ module _ {cells : List ℤ} {k : ℕ} where
 
 -- ---- a policy by value
 
+-- one member more of those that are taken
+pub map-take-more : {A B : Type 0} (f : A → B) (l : List A) (i : ℕ) (d : A) → i < length l → map f (take i l) ++ (f (getD l i d) ∷ []) ≡ map f (take (i + 1) l)
+map-take-more f l i d h = sym (map-append f (take i l) (getD l i d ∷ [])) ∙ ap (map f) (sym (take-suc l i d h) ∙ ap (λ (j : ℕ). take j l) (sym (add-one i)))
+
 -- one rule more in the 16 cells of the signals or of the scores
 pub rule-more : {A : Type 0} {x : A} {l : List A} (z : A) (f : Rule → A) (rules : List Rule) (i : ℕ) → l ≡ padded 16 z (map f (take i rules))
     → i < length rules → length rules ≤ 16 → x ≡ f (getD rules i noRule) → set l i x ≡ padded 16 z (map f (take (i + 1) rules))
@@ -109,9 +113,7 @@ rule-more {A = A} {x = x} z f rules i q h r e =
     let n : length xs ≡ i = length-map (take i rules) f ∙ length-take-le i rules (omega arith) in
     ap (λ (m : List A). set m i x) q
     ∙ subst (λ (j : ℕ). set (padded 16 z xs) j x ≡ padded 16 z (xs ++ (x ∷ []))) n (padded-more 16 z xs x (omega (arith, n)))
-    ∙ ap (padded 16 z)
-    (ap (λ (y : A). xs ++ (y ∷ [])) e ∙ sym (map-append f (take i rules) (getD rules i noRule ∷ []))
-    ∙ ap (map f) (sym (take-suc rules i noRule h) ∙ ap (λ (j : ℕ). take j rules) (sym (add-one i))))
+    ∙ ap (padded 16 z) (ap (λ (y : A). xs ++ (y ∷ [])) e ∙ map-take-more f rules i noRule h)
 
 -- ---- the exclusions
 

@@ -26,13 +26,9 @@ verdictMeaning n (Refused reason) next = refused (reasonNumber reason) n
 unfoldable pub after : BookSoFar → Form → BookSoFar
 after soFar f = record { book = bookWith soFar f; inRules = opensRules f; oldZero = oldZeroAfter soFar f }
 
--- the verdict on this form as line n
-abbrev pub JudgedAt : ℕ → BookSoFar → Form → Verdict → Type 0
-JudgedAt n soFar f verdict = verdictMeaning n verdict (after soFar f) ≡ accept n soFar f
-
 -- the verdict on this form, whichever line it is
 abbrev pub Judged : BookSoFar → Form → Verdict → Type 0
-Judged soFar f verdict = (n : ℕ) → JudgedAt n soFar f verdict
+Judged soFar f verdict = (n : ℕ) → verdictMeaning n verdict (after soFar f) ≡ accept n soFar f
 
 -- the verdict on a form, for each book so far that the state and the cells hold
 abbrev pub JudgedFor : SoFar → List ℤ → Form → Verdict → Type 0
