@@ -131,15 +131,15 @@ same-exclusions a b = pos-same (sym (a .count) ∙ b .count)
 
 -- ---- a condition
 
-module _ {cells : List ℤ} {k : ℕ} (h : ConditionKept cells k) where
-  pub condition-room : k < 8
-  condition-room = omega (arith, condition-within (h .book .conditions) k (h .condition) (h .asked), h .range .conditionsRoom)
+module _ {cells : List ℤ} {n : ℕ} (h : ConditionKept cells n) where
+  pub condition-room : n < 8
+  condition-room = omega (arith, condition-within (h .book .conditions) n (h .condition) (h .asked), h .range .conditionsRoom)
 
-  pub condition-held : ConditionCells cells k (h .condition)
-  condition-held = h .held .conditions k (h .condition) (h .asked)
+  pub condition-held : ConditionCells cells n (h .condition)
+  condition-held = h .held .conditions n (h .condition) (h .asked)
 
   pub condition-range : ConditionInRange (length (h .book .policies)) (h .condition)
-  condition-range = each-condition (ConditionInRange (length (h .book .policies))) (h .book .conditions) k (h .condition) (h .range .conditions) (h .asked)
+  condition-range = each-condition (ConditionInRange (length (h .book .policies))) (h .book .conditions) n (h .condition) (h .range .conditions) (h .asked)
 
   pub exclusions-kept : ExclusionsKept cells
   exclusions-kept = book-exclusions (h .held) (h .range)
@@ -151,12 +151,12 @@ module _ {cells : List ℤ} {k : ℕ} (h : ConditionKept cells k) where
   code-small i l = omega (arith, mention-below (h .condition .expression) i (length (h .book .policies)) l (condition-range .mentions), h .range .policiesRoom)
 
 -- two conditions of the same cells have the same number of codes
-pub same-codes : {cells : List ℤ} {k : ℕ} {c d : Condition} → ConditionCells cells k c → ConditionCells cells k d → length (codesOf (c .expression)) ≡ length (codesOf (d .expression))
+pub same-codes : {cells : List ℤ} {n : ℕ} {c d : Condition} → ConditionCells cells n c → ConditionCells cells n d → length (codesOf (c .expression)) ≡ length (codesOf (d .expression))
 same-codes a b = pos-same (sym (a .count) ∙ b .count)
 
 -- ---- a mention of a condition
 
-module _ {cells : List ℤ} {k : ℕ} (h : ConditionKept cells k) (i : ℕ) (l : i < length (codesOf (h .condition .expression))) (code : ℕ)
+module _ {cells : List ℤ} {n : ℕ} (h : ConditionKept cells n) (i : ℕ) (l : i < length (codesOf (h .condition .expression))) (code : ℕ)
     (told : code ≡ getD (codesOf (h .condition .expression)) i 0) (m : 2 ≤ code) where
   mention-inside : code - 2 < length (h .book .policies)
   mention-inside = omega (arith, mention-below (h .condition .expression) i (length (h .book .policies)) l (condition-range h .mentions))

@@ -96,6 +96,6 @@ unfolding readBefore bookComputes
 mended-read = refl
 
 -- with an `o` above it a refusal names the line below
-kept-refusal : read (bytes "o\np min\nr 16 5\n") ≡ lineBelow (readBefore (bytes "p min\nr 16 5\n"))
+marked-refusal : read (bytes "o\np min\nr 16 5\n") ≡ lineBelow (readBefore (bytes "p min\nr 16 5\n"))
 unfolding readBefore lineBelow bookComputes
-kept-refusal = refl
+marked-refusal = refl

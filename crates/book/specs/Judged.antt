@@ -37,9 +37,11 @@ JudgedFor state cells f verdict = (soFar : BookSoFar) → Holds state cells soFa
 -- the verdict on a policy, from the state and whether its default is in range
 abbrev pub PolicyJudged : SoFar → Bool → Verdict → Type 0
 PolicyJudged state ranged verdict =
-    (soFar : BookSoFar) (o : Operator) (d : Option ℤ) → state ≡ soFarOf soFar → ranged ≡ defaultInRange d → Judged soFar (policy o d) verdict
+    (soFar : BookSoFar) (o : Operator) (d : Option ℤ) → state ≡ soFarOf soFar → ranged ≡ defaultInRange d
+    → Judged soFar (policy o d) verdict
 
 -- the verdict on a condition, from the state and the codes of its expression
 abbrev pub ConditionJudged : SoFar → ℤ → List ℕ → ℕ → Verdict → Type 0
 ConditionJudged state t codes count verdict =
-    ForExpression codes count (λ e. (soFar : BookSoFar) (c : Sense) → state ≡ soFarOf soFar → Judged soFar (condition c t e) verdict)
+    ForExpression codes count (λ e. (soFar : BookSoFar) (c : Sense) → state ≡ soFarOf soFar
+    → Judged soFar (condition c t e) verdict)
