@@ -20,12 +20,12 @@ use Rattle.peal.specs.declared.Sense.{Sense}
 use Rattle.text.specs.Text.{Line}
 use Rattle.text.specs.Forms.{Form, oldZero, policy, rule, exclusion, condition, form}
 use Rattle.limits.specs.Limits.{lineFits}
-use Rattle.book.specs.Acceptance.{BookSoFar, lastPolicy, within, defaultInRange, scoreInRange, mentionsBelow, inPlace, inCount, inRange, defaultOf, withRule, withPolicies, withLast, withExclusion, withCondition, bookWith, opensRules, oldZeroAfter, accept}
+use Rattle.book.specs.Acceptance.{BookSoFar, lastPolicy, within, defaultInRange, scoreInRange, mentionsBelow, inPlace, inCount, inRange, defaultOf, noRules, withRule, withPolicies, withPolicy, withLast, withExclusion, withCondition, bookWith, opensRules, oldZeroAfter, accept}
 use Rattle.book.specs.Books.{acceptForm, readLine}
 use Rattle.book.specs.Cells.{BookCells}
 use Rattle.book.specs.Meaning.{reasonNumber}
 use Rattle.book.specs.Ranges.{ExclusionInRange}
-use Rattle.book.specs.SoFar.{soFarOf, Bounded, Holds}
+use Rattle.book.specs.SoFar.{soFarOf, Bounded}
 use Rattle.book.specs.Judged.{after, Judged}
 use Rattle.book.specs.Adding.{StepIs}
 use Rattle.book.specs.declared.Reason.{Reason}
@@ -71,9 +71,9 @@ module _ {state : SoFar} (so : BookSoFar) (left : state ≡ soFarOf so) where
 
   pub policy-left : (o : Operator) (d : Option ℤ)
       → _≡_ {A = SoFar} (record { «in_rules» = true; policies = state .policies + 1; conditions = state .conditions; «old_zero» = state .«old_zero» }) (soFarOf (after so (policy o d)))
-  unfolding soFarOf after bookWith opensRules oldZeroAfter withPolicies
+  unfolding soFarOf after bookWith opensRules oldZeroAfter withPolicies withPolicy
   policy-left o d =
-      let p : Policy = record { operator = o; default = defaultOf (so .oldZero) o d; rules = [] } in
+      let p : Policy = noRules o (defaultOf (so .oldZero) o d) in
       let more : state .policies + 1 ≡ length (so .book .policies ++ (p ∷ [])) = omega (arith, policies-is so left, length-append (so .book .policies) (p ∷ [])) in
       λ i. record { «in_rules» = true; policies = more i; conditions = conditions-is so left i; «old_zero» = old-zero-is so left i }
 
@@ -163,11 +163,9 @@ module _ (so : BookSoFar) (c : Sense) (t : ℤ) (e : Expression) (j : Judged so 
 -- ---- the cells after a line that is added
 
 module _ (cells : List ℤ) (so : BookSoFar) where
-  pub policy-cells : (o : Operator) (d : Option ℤ) (z : ℤ) → z ≡ defaultOf (so .oldZero) o d
-      → BookCells cells (withPolicies (so .book) (so .book .policies ++ (record { operator = o; default = z; rules = [] } ∷ []))) → BookCells cells (after so (policy o d) .book)
+  pub policy-cells : (o : Operator) (d : Option ℤ) (z : ℤ) → z ≡ defaultOf (so .oldZero) o d → BookCells cells (withPolicy (so .book) (noRules o z)) → BookCells cells (after so (policy o d) .book)
   unfolding after bookWith
-  policy-cells o d z e k =
-      subst (λ (x : ℤ). BookCells cells (withPolicies (so .book) (so .book .policies ++ (record { operator = o; default = x; rules = [] } ∷ [])))) e k
+  policy-cells o d z e k = subst (λ (x : ℤ). BookCells cells (withPolicy (so .book) (noRules o x))) e k
 
   pub rule-cells : (s : ℕ) (y z : ℤ) → y ≡ z → BookCells cells (withLast (so .book) (withRule (lastPolicy (so .book)) (record { signal = s; score = y })))
       → BookCells cells (after so (rule s z) .book)
@@ -178,9 +176,10 @@ module _ (cells : List ℤ) (so : BookSoFar) where
   unfolding after bookWith
   exclusion-cells a b k = k
 
-  pub condition-cells : (c : Condition) → BookCells cells (withCondition (so .book) c) → BookCells cells (after so (condition (c .sense) (c .threshold) (c .expression)) .book)
+  pub condition-cells : (c : Sense) (y z : ℤ) (e : Expression) → y ≡ z → BookCells cells (withCondition (so .book) (record { sense = c; threshold = y; expression = e }))
+      → BookCells cells (after so (condition c z e) .book)
   unfolding after bookWith
-  condition-cells c k = k
+  condition-cells c y z e q k = subst (λ (x : ℤ). BookCells cells (withCondition (so .book) (record { sense = c; threshold = x; expression = e }))) q k
 
 -- ---- a signed number that was passed on
 

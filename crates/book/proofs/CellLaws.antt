@@ -39,7 +39,7 @@ read-back {z = z} f e = toZ-ofZ w32 z f ∙ e
 pub cast-fits : {w : Width} {z : ℤ} {n : ℕ} → z ≡ pos n → Fits w n → T (nonNeg z) × Fits w (natAbs z)
 cast-fits {w = w} e f = subst (λ (y : ℤ). T (nonNeg y) × Fits w (natAbs y)) (sym e) (tt, f)
 
-pub pos-same : {m n : ℕ} → pos m ≡ pos n → m ≡ n
+pos-same : {m n : ℕ} → pos m ≡ pos n → m ≡ n
 pos-same e = ap natAbs e
 
 -- ---- the numbers of operators and senses, as they are matched
@@ -101,6 +101,10 @@ module _ {cells : List ℤ} {k : ℕ} where
 
 -- ---- a policy by value
 
+-- one member more of those that are taken
+pub map-take-more : {A B : Type 0} (f : A → B) (l : List A) (i : ℕ) (d : A) → i < length l → map f (take i l) ++ (f (getD l i d) ∷ []) ≡ map f (take (i + 1) l)
+map-take-more f l i d h = sym (map-append f (take i l) (getD l i d ∷ [])) ∙ ap (map f) (sym (take-suc l i d h) ∙ ap (λ (j : ℕ). take j l) (sym (add-one i)))
+
 -- one rule more in the 16 cells of the signals or of the scores
 pub rule-more : {A : Type 0} {x : A} {l : List A} (z : A) (f : Rule → A) (rules : List Rule) (i : ℕ) → l ≡ padded 16 z (map f (take i rules))
     → i < length rules → length rules ≤ 16 → x ≡ f (getD rules i noRule) → set l i x ≡ padded 16 z (map f (take (i + 1) rules))
@@ -109,9 +113,7 @@ rule-more {A = A} {x = x} z f rules i q h r e =
     let n : length xs ≡ i = length-map (take i rules) f ∙ length-take-le i rules (omega arith) in
     ap (λ (m : List A). set m i x) q
     ∙ subst (λ (j : ℕ). set (padded 16 z xs) j x ≡ padded 16 z (xs ++ (x ∷ []))) n (padded-more 16 z xs x (omega (arith, n)))
-    ∙ ap (padded 16 z)
-    (ap (λ (y : A). xs ++ (y ∷ [])) e ∙ sym (map-append f (take i rules) (getD rules i noRule ∷ []))
-    ∙ ap (map f) (sym (take-suc rules i noRule h) ∙ ap (λ (j : ℕ). take j rules) (sym (add-one i))))
+    ∙ ap (padded 16 z) (ap (λ (y : A). xs ++ (y ∷ [])) e ∙ map-take-more f rules i noRule h)
 
 -- ---- the exclusions
 
@@ -129,15 +131,15 @@ same-exclusions a b = pos-same (sym (a .count) ∙ b .count)
 
 -- ---- a condition
 
-module _ {cells : List ℤ} {k : ℕ} (h : ConditionKept cells k) where
-  pub condition-room : k < 8
-  condition-room = omega (arith, condition-within (h .book .conditions) k (h .condition) (h .asked), h .range .conditionsRoom)
+module _ {cells : List ℤ} {n : ℕ} (h : ConditionKept cells n) where
+  pub condition-room : n < 8
+  condition-room = omega (arith, condition-within (h .book .conditions) n (h .condition) (h .asked), h .range .conditionsRoom)
 
-  pub condition-held : ConditionCells cells k (h .condition)
-  condition-held = h .held .conditions k (h .condition) (h .asked)
+  pub condition-held : ConditionCells cells n (h .condition)
+  condition-held = h .held .conditions n (h .condition) (h .asked)
 
   pub condition-range : ConditionInRange (length (h .book .policies)) (h .condition)
-  condition-range = each-condition (ConditionInRange (length (h .book .policies))) (h .book .conditions) k (h .condition) (h .range .conditions) (h .asked)
+  condition-range = each-condition (ConditionInRange (length (h .book .policies))) (h .book .conditions) n (h .condition) (h .range .conditions) (h .asked)
 
   pub exclusions-kept : ExclusionsKept cells
   exclusions-kept = book-exclusions (h .held) (h .range)
@@ -149,12 +151,12 @@ module _ {cells : List ℤ} {k : ℕ} (h : ConditionKept cells k) where
   code-small i l = omega (arith, mention-below (h .condition .expression) i (length (h .book .policies)) l (condition-range .mentions), h .range .policiesRoom)
 
 -- two conditions of the same cells have the same number of codes
-pub same-codes : {cells : List ℤ} {k : ℕ} {c d : Condition} → ConditionCells cells k c → ConditionCells cells k d → length (codesOf (c .expression)) ≡ length (codesOf (d .expression))
+pub same-codes : {cells : List ℤ} {n : ℕ} {c d : Condition} → ConditionCells cells n c → ConditionCells cells n d → length (codesOf (c .expression)) ≡ length (codesOf (d .expression))
 same-codes a b = pos-same (sym (a .count) ∙ b .count)
 
 -- ---- a mention of a condition
 
-module _ {cells : List ℤ} {k : ℕ} (h : ConditionKept cells k) (i : ℕ) (l : i < length (codesOf (h .condition .expression))) (code : ℕ)
+module _ {cells : List ℤ} {n : ℕ} (h : ConditionKept cells n) (i : ℕ) (l : i < length (codesOf (h .condition .expression))) (code : ℕ)
     (told : code ≡ getD (codesOf (h .condition .expression)) i 0) (m : 2 ≤ code) where
   mention-inside : code - 2 < length (h .book .policies)
   mention-inside = omega (arith, mention-below (h .condition .expression) i (length (h .book .policies)) l (condition-range h .mentions))

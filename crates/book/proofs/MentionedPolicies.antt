@@ -40,8 +40,8 @@ codes-below n (join j a b) =
     (and-true (treeValue (λ (m : MinMax) x y. x && y) (λ m. ltb m n) a && treeValue (λ (m : MinMax) x y. x && y) (λ m. ltb m n) b))
 
 -- the cells that hold the codes
-pub held-below : (codes : List ℕ) (k n : ℕ) (e : Expression) → HoldsCodes codes k e → every (λ y. ltb y (n + 2)) (take k codes) ≡ mentionsBelow n e
-held-below codes k n e h = ap (every (λ y. ltb y (n + 2))) (h .same) ∙ codes-below n e
+pub held-below : (codes : List ℕ) (count n : ℕ) (e : Expression) → HoldsCodes codes count e → every (λ y. ltb y (n + 2)) (take count codes) ≡ mentionsBelow n e
+held-below codes count n e h = ap (every (λ y. ltb y (n + 2))) (h .same) ∙ codes-below n e
 
 -- a mention is of one of the first n policies
 pub mention-below : (e : Expression) (i n : ℕ) → i < length (codesOf e) → mentionsBelow n e ≡ true → getD (codesOf e) i 0 < n + 2

@@ -88,9 +88,9 @@ top-read : (ls : List Line) → readLines 1 noLine (record { text = bytes "o"; e
 unfolding bookComputes older
 top-read ls = refl
 
-kept : (s : List ℕ) → NoLineOf oldZero (textLines s) → length s + 2 ≤ 8192 → read (bytes "o\n" ++ s) ≡ lineBelow (readBefore s)
+marked : (s : List ℕ) → NoLineOf oldZero (textLines s) → length s + 2 ≤ 8192 → read (bytes "o\n" ++ s) ≡ lineBelow (readBefore s)
 unfolding readBefore older noLine
-kept s h room =
+marked s h room =
     sym (read-lines (bytes "o\n" ++ s) (le-leb (length (bytes "o\n" ++ s)) 8192 (omega arith)))
     ∙ ap (readLines 1 noLine) (top-lines s)
     ∙ top-read (textLines s)
@@ -223,4 +223,4 @@ unfolding readBefore
 written s t w g a b = unchanged t g ∙ rw (le-leb (length s) 8192 a, le-leb (length t) 8192 b) (zero-lines 1 _ (textLines s) (textLines t) refl w)
 
 pub old-books : OldBooks
-old-books = record { unchanged = unchanged; kept = kept; written = written }
+old-books = record { unchanged = unchanged; marked = marked; written = written }

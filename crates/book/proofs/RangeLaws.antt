@@ -24,7 +24,7 @@ use Rattle.peal.specs.declared.Operator.the-variants.{Min, Max, Sum, Mul}
 use Rattle.limits.specs.Limits.{exclusionInRange}
 use Rattle.text.specs.Text.{Line, textLines}
 use Rattle.text.specs.Forms.{Form, oldZero, policy, rule, exclusion, condition, form}
-use Rattle.book.specs.Acceptance.{BookSoFar, noLine, emptyBook, lastPolicy, inPlace, inCount, roomForRule, within, defaultInRange, scoreInRange, mentionsBelow, inRange, isNew, missingDefault, defaultOf, withRule, withPolicies, withLast, withExclusion, withCondition, bookWith, opensRules, accept}
+use Rattle.book.specs.Acceptance.{BookSoFar, noLine, emptyBook, lastPolicy, inPlace, inCount, roomForRule, within, defaultInRange, scoreInRange, mentionsBelow, inRange, isNew, missingDefault, defaultOf, noRules, withRule, withPolicies, withPolicy, withLast, withExclusion, withCondition, bookWith, opensRules, accept}
 use Rattle.book.specs.Books.{acceptForm, readLine, readLines, read}
 use Rattle.book.specs.Ranges.{signalsOf, PolicyInRange, ExclusionInRange, ConditionInRange, BookInRange}
 use Rattle.book.specs.Judged.{after}
@@ -59,7 +59,7 @@ missing-in-range false Max = refl
 missing-in-range false Sum = refl
 missing-in-range false Mul = refl
 
-new-in-range : (old : Bool) (o : Operator) (d : Option ℤ) → defaultInRange d ≡ true → PolicyInRange (record { operator = o; default = defaultOf old o d; rules = [] })
+new-in-range : (old : Bool) (o : Operator) (d : Option ℤ) → defaultInRange d ≡ true → PolicyInRange (noRules o (defaultOf old o d))
 unfolding defaultInRange defaultOf
 new-in-range old o none h = record { default = missing-in-range old o; signals = tt; distinct = tt; scores = tt; room = λ _. omega arith }
 new-in-range old o (some d) h = record { default = h; signals = tt; distinct = tt; scores = tt; room = λ _. omega arith }
@@ -118,8 +118,8 @@ module _ (b : Book) (h : BookInRange b) where
   unfolding lastPolicy
   last-in-range s = policy-in-range (length (b .policies) - 1) (omega arith)
 
-  policy-added : (p : Policy) → length (b .conditions) ≡ 0 → length (b .policies) < 16 → PolicyInRange p → BookInRange (withPolicies b (b .policies ++ (p ∷ [])))
-  unfolding withPolicies
+  policy-added : (p : Policy) → length (b .conditions) ≡ 0 → length (b .policies) < 16 → PolicyInRange p → BookInRange (withPolicy b p)
+  unfolding withPolicy withPolicies
   policy-added p empty room k =
       record {
         policiesRoom = omega (arith, length-append (b .policies) (p ∷ []));
@@ -179,7 +179,7 @@ changed so s v = withRule (lastPolicy (so .book)) (record { signal = s; score = 
 
 module _ (so : BookSoFar) (b : Bounded so) where
   module _ (n s : ℕ) (v : ℤ) (p : Passed n so (rule s v)) where
-    pub rule-some : 0 < length (so .book .policies)
+    rule-some : 0 < length (so .book .policies)
     unfolding inPlace
     rule-some = b .some (p .place)
 
@@ -197,10 +197,10 @@ module _ (so : BookSoFar) (b : Bounded so) where
     rule-room = omega (arith, rules-at-most (changed so s v) changed-in-range, length-append (lastPolicy (so .book) .rules) (record { signal = s; score = v } ∷ []))
 
   bounded-after : (n : ℕ) (f : Form) → Passed n so f → FewMentions f → Bounded (after so f)
-  unfolding after bookWith opensRules inPlace inCount inRange withPolicies withLast
+  unfolding after bookWith opensRules inPlace inCount inRange withPolicies withPolicy withLast
   bounded-after n oldZero p few = record { range = b .range; some = λ h. clash h refl }
   bounded-after n (policy o d) p few =
-      let q : Policy = record { operator = o; default = defaultOf (so .oldZero) o d; rules = [] } in
+      let q : Policy = noRules o (defaultOf (so .oldZero) o d) in
       let empty = eqb-true (length (so .book .conditions)) 0 (p .place) in
       let room = ltb-true (length (so .book .policies)) 16 (p .count) in
       record { range = policy-added (so .book) (b .range) q empty room (new-in-range (so .oldZero) o d (p .range)); some = λ _. omega (arith, length-append (so .book .policies) (q ∷ [])) }

@@ -91,6 +91,10 @@ unfoldable pub defaultOf : Bool → Operator → Option ℤ → ℤ
 defaultOf old op none = missingDefault old op
 defaultOf old op (some d) = d
 
+-- a policy with no rules
+abbrev pub noRules : Operator → ℤ → Policy
+noRules op d = record { operator = op; default = d; rules = [] }
+
 -- the policy with one rule more
 unfoldable pub withRule : Policy → Rule → Policy
 withRule p r = record { operator = p .operator; default = p .default; rules = p .rules ++ (r ∷ []) }
@@ -98,6 +102,10 @@ withRule p r = record { operator = p .operator; default = p .default; rules = p 
 -- the book with other policies
 unfoldable pub withPolicies : Book → List Policy → Book
 withPolicies b ps = record { policies = ps; exclusions = b .exclusions; conditions = b .conditions }
+
+-- the book with one policy more
+unfoldable pub withPolicy : Book → Policy → Book
+withPolicy b p = withPolicies b (b .policies ++ (p ∷ []))
 
 -- the book with its last policy changed
 unfoldable pub withLast : Book → Policy → Book
@@ -114,9 +122,7 @@ withCondition b c = record { policies = b .policies; exclusions = b .exclusions;
 -- the book with the line added: a policy, an exclusion or a condition at the end, a rule in the last policy; an `o` adds nothing
 unfoldable pub bookWith : BookSoFar → Form → Book
 bookWith soFar oldZero = soFar .book
-bookWith soFar (policy op d) =
-    withPolicies (soFar .book)
-    (soFar .book .policies ++ (record { operator = op; default = defaultOf (soFar .oldZero) op d; rules = [] } ∷ []))
+bookWith soFar (policy op d) = withPolicy (soFar .book) (noRules op (defaultOf (soFar .oldZero) op d))
 bookWith soFar (rule s v) = withLast (soFar .book) (withRule (lastPolicy (soFar .book)) (record { signal = s; score = v }))
 bookWith soFar (exclusion a b) = withExclusion (soFar .book) (record { first = a; second = b })
 bookWith soFar (condition c t e) = withCondition (soFar .book) (record { sense = c; threshold = t; expression = e })

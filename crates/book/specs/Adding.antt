@@ -10,15 +10,14 @@ use lib.ListN.{length}
 use Rattle.answers.specs.Answers.{Answer, result, refused, onResult}
 use Rattle.peal.specs.Policies.{Expression}
 use Rattle.peal.specs.declared.Operator.{Operator}
-use Rattle.peal.specs.declared.Sense.{Sense}
 use Rattle.text.specs.Codes.{HoldsCodes}
-use Rattle.text.specs.Forms.{Form, oldZero, policy, condition}
+use Rattle.text.specs.Forms.{Form, oldZero, policy}
 use Rattle.text.specs.LineMeaning.{lineMeaning, StartIn}
 use Rattle.text.specs.declared.lines.Line.{Line}
 use Rattle.text.specs.declared.lines.LineRead.the-variants.{Good}
 use Rattle.book.specs.Acceptance.{BookSoFar, defaultOf, defaultInRange, accept}
 use Rattle.book.specs.Books.{acceptForm, readLine, Counts}
-use Rattle.book.specs.Cells.{ForExpression, BookCells}
+use Rattle.book.specs.Cells.{BookCells}
 use Rattle.book.specs.Meaning.{reasonNumber}
 use Rattle.book.specs.SoFar.{soFarOf, Holds, Kept}
 use Rattle.book.specs.declared.acceptance.SoFar.{SoFar}
@@ -39,19 +38,22 @@ pub record StepIs (n : ℕ) (answer : Answer BookSoFar) (step : Step) (cells : L
   pub told : stepMeaning n step ≡ onResult answer (λ soFar. result (soFarOf soFar))
   pub held : (soFar : BookSoFar) → answer ≡ result soFar → BookCells cells (soFar .book)
 
--- the step of a line of this form: for each line number, and each book so far that the state and the cells before it hold
+-- the step of a line of this form, for each line number and each book so far that the state and the cells before it hold
 abbrev pub Adds : SoFar → (before : List ℤ) → Form → Step → (cells : List ℤ) → Type 0
-Adds state before f step cells = (n : ℕ) (soFar : BookSoFar) → Holds state before soFar → StepIs n (accept n soFar f) step cells
+Adds state before f step cells =
+    (n : ℕ) (soFar : BookSoFar) → Holds state before soFar → StepIs n (accept n soFar f) step cells
 
 -- the step of an `o`, which leaves the cells; `top` tells whether it is line 1
 abbrev pub OldZeroAdded : SoFar → (top : Bool) → Step → Type 0
 OldZeroAdded state top step =
-    (n : ℕ) (soFar : BookSoFar) (cells : List ℤ) → Holds state cells soFar → top ≡ eqb n 1 → StepIs n (accept n soFar oldZero) step cells
+    (n : ℕ) (soFar : BookSoFar) (cells : List ℤ) → Holds state cells soFar → top ≡ eqb n 1
+    → StepIs n (accept n soFar oldZero) step cells
 
 -- the step of a policy, from its default, as given or as missing, and whether that is in range
 abbrev pub PolicyAdded : SoFar → (before : List ℤ) → Operator → ℤ → (ranged : Bool) → Step → (cells : List ℤ) → Type 0
 PolicyAdded state before o default ranged step cells =
-    (n : ℕ) (soFar : BookSoFar) (d : Option ℤ) → Holds state before soFar → default ≡ defaultOf (soFar .oldZero) o d → ranged ≡ defaultInRange d
+    (n : ℕ) (soFar : BookSoFar) (d : Option ℤ) → Holds state before soFar
+    → default ≡ defaultOf (soFar .oldZero) o d → ranged ≡ defaultInRange d
     → StepIs n (accept n soFar (policy o d)) step cells
 
 -- a condition can be added: the first codes are those of an expression
@@ -60,10 +62,6 @@ pub record CanAddCondition (state : SoFar) (cells : List ℤ) (codes : List ℕ)
   pub few : count ≤ 31
   pub expression : Expression
   pub held : HoldsCodes codes count expression
-
--- the step of a condition, from the codes of its expression
-abbrev pub ConditionAdded : SoFar → (before : List ℤ) → Sense → ℤ → List ℕ → ℕ → Step → (cells : List ℤ) → Type 0
-ConditionAdded state before c t codes count step cells = ForExpression codes count (λ e. Adds state before (condition c t e) step cells)
 
 -- a form can be added that was read of a line of at most 128 bytes
 pub record CanAddForm (state : SoFar) (cells : List ℤ) (text : List ℕ) (f : Line) : Type 0 where

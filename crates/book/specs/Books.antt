@@ -29,7 +29,7 @@ readLines n soFar (l ∷ ls) = onResult (readLine n soFar l) (λ next. readLines
 
 -- the book's bytes: 1 with line 0 where they are over 8,192, then the lines
 unfoldable pub read : List ℕ → Answer Book
-read s = require (bookFits (length s)) 1 0 (readLines 1 noLine (textLines s))
+read bytes = require (bookFits (length bytes)) 1 0 (readLines 1 noLine (textLines bytes))
 
 -- how many policies and conditions a book has
 pub record Counts : Type 0 where
@@ -38,7 +38,8 @@ pub record Counts : Type 0 where
 
 -- what a check of a book's bytes tells: refusals 1 to 6, or the counts
 unfoldable pub checked : List ℕ → Answer Counts
-checked s = onResult (read s) (λ b. result (record { policies = length (b .policies); conditions = length (b .conditions) }))
+checked bytes =
+    onResult (read bytes) (λ b. result (record { policies = length (b .policies); conditions = length (b .conditions) }))
 
 -- the condition of a number, counted from 0; 7 where there is none
 unfoldable pub conditionAt : List Condition → ℕ → Answer Condition

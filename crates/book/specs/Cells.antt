@@ -1,4 +1,4 @@
--- The book as the code keeps it, in cells: the policies, the conditions, the exclusions. Only the cells named here mean anything.
+-- The book as the code keeps it, in cells: policies, conditions, exclusions. Only the cells named here mean anything.
 use Prim.Native.Nat.{ℕ, _+_, _*_, _<_}
 use mathlib.Core.List.{List, map}
 use mathlib.Core.Path.{_≡_}
@@ -56,7 +56,7 @@ scoresAt = signalsAt + mostRules
 abbrev pub policyCells : ℕ
 policyCells = scoresAt + mostRules
 
--- where the cells of policy k begin, and stand its operator, its default, how many rules, the set of their signals, and rule i's signal and score
+-- where the cells of policy k begin: its operator, its default, how many rules, the set of their signals, rule i's signal and score
 abbrev pub policyFrom : ℕ → ℕ
 policyFrom k = k * policyCells
 
@@ -85,7 +85,7 @@ conditionsFrom = mostPolicies * policyCells
 abbrev pub conditionCells : ℕ
 conditionCells = 3 + mostCodes
 
--- where the cells of condition n begin, and stand its sense, its threshold, how many codes, and code i
+-- where the cells of condition n begin: its sense, its threshold, how many codes, code i
 abbrev pub conditionFrom : ℕ → ℕ
 conditionFrom n = n * conditionCells + conditionsFrom
 

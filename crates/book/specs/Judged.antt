@@ -26,13 +26,9 @@ verdictMeaning n (Refused reason) next = refused (reasonNumber reason) n
 unfoldable pub after : BookSoFar → Form → BookSoFar
 after soFar f = record { book = bookWith soFar f; inRules = opensRules f; oldZero = oldZeroAfter soFar f }
 
--- the verdict on this form as line n
-abbrev pub JudgedAt : ℕ → BookSoFar → Form → Verdict → Type 0
-JudgedAt n soFar f verdict = verdictMeaning n verdict (after soFar f) ≡ accept n soFar f
-
 -- the verdict on this form, whichever line it is
 abbrev pub Judged : BookSoFar → Form → Verdict → Type 0
-Judged soFar f verdict = (n : ℕ) → JudgedAt n soFar f verdict
+Judged soFar f verdict = (n : ℕ) → verdictMeaning n verdict (after soFar f) ≡ accept n soFar f
 
 -- the verdict on a form, for each book so far that the state and the cells hold
 abbrev pub JudgedFor : SoFar → List ℤ → Form → Verdict → Type 0
@@ -41,9 +37,11 @@ JudgedFor state cells f verdict = (soFar : BookSoFar) → Holds state cells soFa
 -- the verdict on a policy, from the state and whether its default is in range
 abbrev pub PolicyJudged : SoFar → Bool → Verdict → Type 0
 PolicyJudged state ranged verdict =
-    (soFar : BookSoFar) (o : Operator) (d : Option ℤ) → state ≡ soFarOf soFar → ranged ≡ defaultInRange d → Judged soFar (policy o d) verdict
+    (soFar : BookSoFar) (o : Operator) (d : Option ℤ) → state ≡ soFarOf soFar → ranged ≡ defaultInRange d
+    → Judged soFar (policy o d) verdict
 
 -- the verdict on a condition, from the state and the codes of its expression
 abbrev pub ConditionJudged : SoFar → ℤ → List ℕ → ℕ → Verdict → Type 0
 ConditionJudged state t codes count verdict =
-    ForExpression codes count (λ e. (soFar : BookSoFar) (c : Sense) → state ≡ soFarOf soFar → Judged soFar (condition c t e) verdict)
+    ForExpression codes count (λ e. (soFar : BookSoFar) (c : Sense) → state ≡ soFarOf soFar
+    → Judged soFar (condition c t e) verdict)

@@ -5,6 +5,7 @@ pub mod Cells
 pub mod Ranges
 pub mod Meaning
 pub mod Asked
+pub mod Storing
 pub mod SoFar
 pub mod Judged
 pub mod Adding

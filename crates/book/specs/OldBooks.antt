@@ -19,9 +19,9 @@ use Rattle.book.specs.Books.{readLines, read}
 
 -- reading as it was, of a book without an `o`, which had no form: every default that is left out is 0
 unfoldable pub readBefore : List ℕ → Answer Book
-readBefore s =
-    require (bookFits (length s)) 1 0
-    (readLines 1 (record { book = emptyBook; inRules = false; oldZero = true }) (textLines s))
+readBefore text =
+    require (bookFits (length text)) 1 0
+    (readLines 1 (record { book = emptyBook; inRules = false; oldZero = true }) (textLines text))
 
 -- no line has this form
 abbrev pub NoLineOf : Form → List Line → Type 0
@@ -53,10 +53,10 @@ ZerosWritten (l ∷ ls) (m ∷ ms) =
 
 pub record OldBooks : Type 0 where
   -- a book that leaves out no default of `min` or `mul` is read as it was: the same book, or the same refusal
-  pub unchanged : (s : List ℕ) → AllGiven (textLines s) → read s ≡ readBefore s
+  pub unchanged : (text : List ℕ) → AllGiven (textLines text) → read text ≡ readBefore text
   -- so is every book with an `o` put above it, if there is room for it
-  pub kept : (s : List ℕ) → NoLineOf oldZero (textLines s) → length s + 2 ≤ 8192
-      → read (bytes "o\n" ++ s) ≡ lineBelow (readBefore s)
+  pub marked : (text : List ℕ) → NoLineOf oldZero (textLines text) → length text + 2 ≤ 8192
+      → read (bytes "o\n" ++ text) ≡ lineBelow (readBefore text)
   -- and so is every book in which each `p min` and `p mul` alone has its 0 written
-  pub written : (s t : List ℕ) → ZerosWritten (textLines s) (textLines t) → AllGiven (textLines t)
-      → length s ≤ 8192 → length t ≤ 8192 → read t ≡ readBefore s
+  pub written : (old new : List ℕ) → ZerosWritten (textLines old) (textLines new) → AllGiven (textLines new)
+      → length old ≤ 8192 → length new ≤ 8192 → read new ≡ readBefore old

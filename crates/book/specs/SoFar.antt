@@ -1,5 +1,5 @@
 -- What the code has of the lines so far: a few numbers beside the cells. And what every book so far keeps to.
-use Prim.Native.Nat.{ℕ, _<_}
+use Prim.Native.Nat.{_<_}
 use mathlib.Core.Bool.{true}
 use mathlib.Core.List.{List}
 use mathlib.Core.Path.{_≡_}

@@ -24,8 +24,8 @@ ghost use Rattle.book.specs.Judged.{JudgedFor, PolicyJudged, ConditionJu
 // The code of policy 0 in an expression; policy k has k more, and a join less.
 const POLICY_CODE: u32 = 2;
 
-// What the lines so far leave for the next one, beside the cells: whether the line above is a `p` or an `r`, the counts, and
-// whether the first line is an `o`.
+// What the lines so far leave for the next one, beside the cells: whether the line above is a `p` or an `r`, the counts,
+// and whether the first line is an `o`.
 pub struct SoFar {
     pub in_rules: bool,
     pub policies: usize,

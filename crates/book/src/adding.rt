@@ -19,10 +19,11 @@ use text::Parsed;
 use text::read_expression;
 use text::read_line;
 ghost use mathlib.Core.Path.{_≡_};
-ghost use Rattle.text.specs.Forms.{rule, exclusion};
+ghost use Rattle.text.specs.Forms.{rule, exclusion, condition};
 ghost use Rattle.book.specs.Acceptance.{missingDefault};
+ghost use Rattle.book.specs.Cells.{ForExpression};
 ghost use Rattle.book.specs.SoFar.{Kept};
-ghost use Rattle.book.specs.Adding.{Adds, OldZeroAdded, PolicyAdded, CanAddCondition, ConditionAdded, CanAddForm, FormAdded, LineAdded};
+ghost use Rattle.book.specs.Adding.{Adds, OldZeroAdded, PolicyAdded, CanAddCondition, CanAddForm, FormAdded, LineAdded};
 
 // A score of 1.00, in hundredths.
 const FULL_SCORE: i32 = 100;
@@ -122,7 +123,8 @@ fn add_condition(
     count: usize,
 ) -> Step
     requires { ⌜ CanAddCondition state (now cells) (now codes) count ⌝ }
-    ensures { λ r. ⌜ ConditionAdded state (now (cells .entry)) sense threshold (now (codes .entry)) count r (now (cells .exit)) ⌝ }
+    ensures { λ r. ⌜ ForExpression (now (codes .entry)) count (λ e.
+        Adds state (now (cells .entry)) (condition sense threshold e) r (now (cells .exit))) ⌝ }
 {
     if let Verdict::Refused(reason) = judge_condition(state, threshold, codes, count) {
         return Step::Refused(reason);
@@ -137,8 +139,8 @@ fn add_condition(
     })
 }
 
-// A line of at most 128 bytes that was read as `form`; `top` tells whether it is line 1. It stands apart from `add_line` so
-// that each form's function is put in place by the back end (docs/DECISIONS.md, D34).
+// A line of at most 128 bytes that was read as `form`; `top` tells whether it is line 1. It stands apart from `add_line`
+// so that each form's function is put in place by the back end (docs/DECISIONS.md, D34).
 fn add_form(cells: &mut Cells, state: SoFar, line: &[u8], top: bool, form: Line) -> Step
     requires { ⌜ CanAddForm state (now cells) (now line) form ⌝ }
     ensures { λ r. ⌜ FormAdded state (now (cells .entry)) (now (line .entry)) top form r (now (cells .exit)) ⌝ }

@@ -1,7 +1,7 @@
 // The read book as cells: numbers alone, which can be lent; a struct would be copied at every call.
-// The policies come first, then the conditions, then the exclusions. No cell means anything but those that are named here.
-// The functions are for this crate and those above, which have the cells of a book in range: no call that a user makes has a
-// condition, and each call of these is proved to meet it.
+// The policies come first, then the conditions, then the exclusions. No cell means anything but those named here.
+// The functions are for this crate and those above, which have the cells of a book in range: no call that a user makes
+// has a condition, and each call of these is proved to meet it.
 use text::CODE_COUNT;
 ghost use mathlib.Core.Path.{_≡_};
 ghost use lib.ListN.{length, getD};
@@ -13,8 +13,8 @@ ghost use Rattle.book.specs.Ranges.{PolicyKept, RuleKept, ExclusionsKept
 // A policy has a rule for each signal at most.
 const MOST_RULES: usize = 16;
 
-// Policy k has the cells from k * POLICY_CELLS on: its operator, and at these places after that its default, how many rules, the
-// set of their signals, their signals and their scores.
+// Policy k has the cells from k * POLICY_CELLS on: its operator, and at these places after that its default, how many
+// rules, the set of their signals, their signals and their scores.
 pub const DEFAULT: usize = 1;
 
 pub const COUNT: usize = 2;
@@ -27,8 +27,8 @@ pub const SCORES: usize = SIGNALS + MOST_RULES;
 
 pub const POLICY_CELLS: usize = SCORES + MOST_RULES;
 
-// After the policies come the conditions: n * CONDITION_CELLS after these places stand the sense of condition n, its threshold,
-// how many codes, and the codes.
+// After the policies come the conditions: n * CONDITION_CELLS after these places stand the sense of condition n, its
+// threshold, how many codes, and the codes.
 pub const SENSE: usize = limits::MOST_POLICIES * POLICY_CELLS;
 
 pub const THRESHOLD: usize = SENSE + 1;

@@ -22,7 +22,7 @@ ghost use Rattle.book.specs.Meaning.{checkedMeaning};
 // The byte that ends a line.
 const LINE_END: u8 = 10;
 
-// What is told of a book whose last step is this one, of line `line`: how many of each there are so far, or the refusal.
+// What is told of a book whose last step is this one, of that line: how many of each there are so far, or the refusal.
 fn answer_after(step: Step, line: usize) -> Checked
     ensures { λ r. ⌜ checkedMeaning r ≡ onResult (stepMeaning line step) (λ state. result (countsOf state)) ⌝ }
 {
@@ -38,8 +38,8 @@ fn answer_after(step: Step, line: usize) -> Checked
     }
 }
 
-// What a check of the book tells; and into the lent cells, whatever they hold, the book where it is accepted. Where it is
-// refused they hold nothing of use.
+// What a check of the book tells; and into the lent cells, whatever they hold, the book where it is accepted. Where it
+// is refused they hold nothing of use.
 fn read(bytes: &[u8], cells: &mut Cells) -> Checked
     ensures { λ r. ⌜ checkedMeaning r ≡ checked (now (bytes .entry)) ⌝ }
     ensures { λ r. ⌜ ReadInto (now (bytes .entry)) (now (cells .exit)) ⌝ }

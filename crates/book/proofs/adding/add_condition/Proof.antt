@@ -1,6 +1,6 @@
 -- `book::adding::add_condition`: by the verdict.
 use Prim.Native.Nat.{_<_}
-use mathlib.Core.Path.{_≡_, refl}
+use mathlib.Core.Path.{_≡_}
 use native.Mathlib.Omega.{arith}
 use denote.Ref.{now}
 use mir.Syntax.{w32}
@@ -57,7 +57,7 @@ put-condition-requires : tie.Need-put-condition-requires
 put-condition-requires c κs =
     let m = c .before in
     let p = begin m .pre in
-    (room m, p .few, (p .expression, p .held, condition-mentions (p .kept .0) _ _ _ (fine m) (p .kept .1 .bounded)))
+    record { room = room m; few = p .few; expression = p .expression; held = p .held; mentions = condition-mentions (p .kept .0) _ _ _ (fine m) (p .kept .1 .bounded) }
 
 add-t12 : tie.Need-add-t12
 add-t12 c = record { fits = omega (arith, room (c .before .before)) }
@@ -68,7 +68,7 @@ returns-2 c =
     let s = begin m in
     λ e k n so h.
     step-added n _ (after so (condition _ _ e)) _ _ (judged (m .before .before) so e h k Fine (m .enum-told .given .1) n) (condition-left so (h .left) _ _ e)
-    (condition-cells _ so _ (c .put-condition .ensures (so .book) _ (h .held) (h .bounded .range) (conditions-is so (h .left)) refl (toZ-ofZ w32 (s .args .threshold) (s .fits .threshold)) k))
+    (condition-cells _ so _ _ _ e (toZ-ofZ w32 (s .args .threshold) (s .fits .threshold)) (c .put-condition .ensures e k (so .book) (h .held) (h .bounded .range) (conditions-is so (h .left))))
 
 pub add-condition-spec : {M : Type 1} → statement M
 add-condition-spec =

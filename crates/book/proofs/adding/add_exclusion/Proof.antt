@@ -39,14 +39,14 @@ put-exclusion-requires c κs =
     let (so, h) = j .before .before .pre in
     let v = judged j so h Fine (m .enum-told .given .1) in
     let f = exclusion-fits so _ _ v in
-    (exclusions-so-far h, exclusion-room so _ _ v, f .first, f .second)
+    record { kept = exclusions-so-far h; room = exclusion-room so _ _ v; firstSmall = f .first; secondSmall = f .second }
 
 returns-2 : tie.Need-returns-2
 returns-2 c =
     let m = c .before .before in
     λ n so h.
     step-added n _ (after so (exclusion _ _)) _ _ (judged (m .before .before) so h Fine (m .enum-told .given .1) n) (exclusion-left so (h .left) _ _)
-    (exclusion-cells _ so _ _ (c .put-exclusion .ensures (so .book) (h .held) (h .bounded .range)))
+    (exclusion-cells _ so _ _ (c .put-exclusion .ensures (so .book) (h .held) (h .bounded .range) tt))
 
 pub add-exclusion-spec : {M : Type 1} → statement M
 add-exclusion-spec =

@@ -1,6 +1,6 @@
 -- `book::adding::add_policy`: by the verdict.
 use Prim.Native.Nat.{_<_}
-use mathlib.Core.Path.{_≡_, _∙_}
+use mathlib.Core.Path.{_∙_}
 use native.Mathlib.Omega.{arith}
 use mir.Syntax.{w32}
 use mir.ValLaws.{toZ-ofZ}

@@ -57,7 +57,7 @@ put-rule-requires c κs =
     let m = c .before .before in
     let (so, h) = begin m .pre in
     let f = rule-fits so (h .bounded) _ _ (fine m so h) in
-    (last-kept h (follows m), f .0, f .1)
+    record { kept = last-kept h (follows m); room = f .0; small = f .1 }
 
 returns-2 : tie.Need-returns-2
 returns-2 c =

@@ -13,15 +13,15 @@ use mir.Val.{SFits}
 use mir.ValLaws.{toZ-ofZ}
 use Rattle.arith.specs.Lists.{padded}
 use Rattle.peal.specs.Policies.{Rule, Policy}
-use Rattle.book.specs.Cells.{PolicyCells, storedPolicy}
+use Rattle.book.specs.Cells.{PolicyCells, ForPolicy, storedPolicy}
 use Rattle.book.proofs.CellLaws.{kept-rules, rule-more}
 use Rattle.book.proofs.cells.policy_at.Statement.{statement}
 use Rattle.book.proofs.cells.policy_at.Tie as tie
 
 abbrev Inv-loop : tie.InvT-loop
 Inv-loop cells k count signals₀ scores₀ i₀ signals scores i =
-    (i ≤ count) × ((p : Policy) → PolicyCells cells k p
-    → (signals ≡ padded 16 0 (map (λ (r : Rule). r .signal) (take i (p .rules))))
+    (i ≤ count) × ForPolicy cells k (λ p.
+    (signals ≡ padded 16 0 (map (λ (r : Rule). r .signal) (take i (p .rules))))
     × (scores ≡ padded 16 (pos 0) (map (λ (r : Rule). r .score) (take i (p .rules)))))
 
 abbrev μ-loop : tie.MeasureT-loop

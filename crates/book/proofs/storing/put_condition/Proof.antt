@@ -1,47 +1,29 @@
--- `book::storing::put_condition`: the first three cells of the condition are written, and then a code at each turn.
-use Prim.Native.Nat.{ℕ, _-_, _≤_}
-use mathlib.Core.List.{List}
-use mathlib.Core.Path.{_≡_, ap, subst, _∙_}
+-- `book::storing::put_condition`: the first three cells of the condition are written, in a row, and then a code at each turn.
+use Prim.Native.Nat.{ℕ, _-_, _≤_, _<_}
+use mathlib.Core.List.{List, map}
+use mathlib.Core.Path.{_≡_, refl, _∙_}
 use native.Mathlib.Omega.{arith}
 use borrow.Author.Needs.{needs}
 use denote.Ref.{now}
-use lib.IntN.{ℤ}
-use lib.ListN.{length, getD, set}
+use lib.IntN.{pos}
+use lib.ListN.{length, getD, take, length-set}
+use lib.Seq.{sets, length-sets}
 use mir.Syntax.{w32}
-use mir.Val.{SFits, toZ, ofZ}
+use mir.Val.{SFits}
 use mir.ValLaws.{toZ-pos, toZ-ofZ}
-use Rattle.book.specs.Cells.{senseCode, senseCell, thresholdCell, lengthCell, cellCount}
-use Rattle.book.proofs.StoringLaws.{CodesSoFar, no-codes, code-more, held-small, c-one-length, c-two-length, c-three-length, condition-put}
+use Rattle.book.specs.Cells.{codesFrom, cellCount}
+use Rattle.book.proofs.StoredConditions.{held-small, held-long, code-more, condition-put}
 use Rattle.book.proofs.storing.put_condition.Statement.{statement}
 use Rattle.book.proofs.storing.put_condition.Tie as tie
 
 abbrev Inv-loop : tie.InvT-loop
-Inv-loop k threshold codes n code all₀ i₀ all i = (i ≤ n) × CodesSoFar all₀ all k codes i
+Inv-loop n threshold codes count code all₀ i₀ all i = (i ≤ count) × (all ≡ sets all₀ (codesFrom n) (map pos (take i codes)))
 
 abbrev μ-loop : tie.MeasureT-loop
-μ-loop k threshold codes n code all₀ i₀ all i = n - i
+μ-loop n threshold codes count code all₀ i₀ all i = count - i
 
 long : (c : tie.After-all Inv-loop μ-loop) → length (now (c .before .before .args .cells)) ≡ cellCount
 long c = search needs
-
--- what is written, as it is read back
-abbrev code : tie.After-all Inv-loop μ-loop → ℤ
-code c = toZ w32 (ofZ w32 (c .before .sense-code .result))
-
-abbrev threshold : tie.After-all Inv-loop μ-loop → ℤ
-threshold c = toZ w32 (ofZ w32 (c .before .before .args .threshold))
-
-abbrev count : tie.After-all Inv-loop μ-loop → ℤ
-count c = toZ w32 (c .before .before .args .n)
-
--- the cells before the first turn
-abbrev first : tie.After-all Inv-loop μ-loop → List ℤ
-first c =
-    let s = c .before .before in
-    set (set (set (now (s .args .cells)) (senseCell (s .args .k)) (code c)) (thresholdCell (s .args .k)) (threshold c)) (lengthCell (s .args .k)) (count c)
-
-first-long : (c : tie.After-all Inv-loop μ-loop) → length (first c) ≡ cellCount
-first-long c = let s = c .before .before in c-three-length (now (s .args .cells)) (s .args .k) (code c) (threshold c) (count c) ∙ long c
 
 sense-code-requires : tie.Need-sense-code-requires Inv-loop μ-loop
 sense-code-requires c κs = search needs
@@ -68,7 +50,7 @@ mul-threshold-2 : tie.Need-mul-threshold-2 Inv-loop μ-loop
 mul-threshold-2 c = search needs
 
 slice-set-from-threshold : tie.Need-slice-set-from-threshold Inv-loop μ-loop
-slice-set-from-threshold c = let s = c .before .before in omega (arith, s .pre .0, long c, c-one-length (now (s .args .cells)) (s .args .k) (code c) (threshold c) (count c))
+slice-set-from-threshold c = simp length-set (omega (arith, c .before .before .pre .room, long c))
 
 cast-all : tie.Need-cast-all Inv-loop μ-loop
 cast-all c = search needs
@@ -83,10 +65,10 @@ mul-t13 : tie.Need-mul-t13 Inv-loop μ-loop
 mul-t13 c = search needs
 
 slice-set-from-all : tie.Need-slice-set-from-all Inv-loop μ-loop
-slice-set-from-all c = let s = c .before .before in omega (arith, s .pre .0, long c, c-two-length (now (s .args .cells)) (s .args .k) (code c) (threshold c) (count c))
+slice-set-from-all c = simp length-set (omega (arith, c .before .before .pre .room, long c))
 
 loop-holds : tie.Need-loop-holds Inv-loop μ-loop
-loop-holds c = let s = c .before .before in (omega arith, no-codes (first c) (s .args .k) (now (s .args .codes)))
+loop-holds c = (omega arith, refl)
 
 mul-all : tie.Need-mul-all Inv-loop μ-loop
 mul-all c = search needs
@@ -94,11 +76,22 @@ mul-all c = search needs
 element-copy-out-all : tie.Need-element-copy-out-all Inv-loop μ-loop
 element-copy-out-all c = search needs
 
+-- a turn: the codes, the next one of which is small
+module _ (c : tie.After-all2 Inv-loop μ-loop) where
+  abbrev turn : tie.At-loop Inv-loop μ-loop
+  turn = c .before .before
+
+  abbrev begin : tie.Start Inv-loop μ-loop
+  begin = turn .before .before .before
+
+  abbrev codes : List ℕ
+  codes = now (begin .args .codes)
+
+  small : getD codes (turn .loop .i) 0 < 18
+  small = held-small (begin .pre .held) (begin .pre .mentions) (turn .loop .i) (c .before .loop-test .taken)
+
 cast-all-2 : tie.Need-cast-all-2 Inv-loop μ-loop
-cast-all-2 c =
-    let l = c .before .before in
-    let s = l .before .before .before in
-    record { sfits = omega (arith, held-small (s .pre .2 .1) (s .pre .2 .2) (l .loop .i) (c .before .loop-test .taken)) }
+cast-all-2 c = record { sfits = omega (arith, small c) }
 
 mul-t24 : tie.Need-mul-t24 Inv-loop μ-loop
 mul-t24 c = search needs
@@ -114,9 +107,9 @@ mul-t27 c = search needs
 
 slice-set-from-all-2 : tie.Need-slice-set-from-all-2 Inv-loop μ-loop
 slice-set-from-all-2 c =
-    let l = c .before .before in
-    let s = l .before .before .before in
-    omega (arith, s .pre .0, s .pre .1, c .before .loop-test .taken, first-long (l .before), l .loop .inv .1 .changed .long)
+    let l = turn c in
+    let s = begin c in
+    rw (l .loop .inv .1) (simp (length-sets, length-set) (omega (arith, s .pre .room, s .pre .few, c .before .loop-test .taken, long (l .before))))
 
 add-i : tie.Need-add-i Inv-loop μ-loop
 add-i c = search needs
@@ -126,30 +119,27 @@ loop-less c = search needs
 
 loop-again : tie.Need-loop-again Inv-loop μ-loop
 loop-again c =
-    let l = c .before .before in
-    let s = l .before .before .before in
-    let codes : List ℕ = now (s .args .codes) in (
+    let l = turn c in
+    let s = begin c in (
       omega (arith, c .before .loop-test .taken),
-      code-more (first (l .before)) (l .loop .all) (s .args .k) codes (l .loop .i) (toZ w32 (getD codes (l .loop .i) 0)) (s .pre .0) (omega (arith, s .pre .1, c .before .loop-test .taken)) (first-long (l .before))
-          (toZ-pos w32 (getD codes (l .loop .i) 0) (omega (arith, held-small (s .pre .2 .1) (s .pre .2 .2) (l .loop .i) (c .before .loop-test .taken))))
-          (l .loop .inv .1),
+      code-more _ (l .loop .all) (codesFrom (s .args .n)) (l .loop .i) (codes c) _ (omega (arith, c .before .loop-test .taken, held-long (s .pre .held))) (l .loop .inv .1)
+          (toZ-pos w32 (getD (codes c) (l .loop .i) 0) (omega (arith, small c))),
     )
 
 returns : tie.Need-returns Inv-loop μ-loop
-returns c = λ b d h range last sense-is threshold-is held.
+returns c =
     let l = c .before in
     let a = l .before in
     let s = a .before .before in
     let r = a .before .sense-code in
     let fits : SFits w32 (r .result) = search needs in
-    let e : l .loop .i ≡ s .args .n = omega (arith, l .loop .inv .0, c .loop-test .left) in
-    condition-put (now (s .args .cells)) (s .args .k) (code a) (threshold a) (count a) (l .loop .all) (s .args .n) (now (s .args .codes))
-    (subst (CodesSoFar (first a) (l .loop .all) (s .args .k) (now (s .args .codes))) e (l .loop .inv .1))
-    d (s .pre .0) (long a)
-    (toZ-ofZ w32 (r .result) fits ∙ r .ensures ∙ ap senseCode sense-is)
-    (toZ-ofZ w32 (s .args .threshold) (s .fits .threshold) ∙ threshold-is)
-    (toZ-pos w32 (s .args .n) (omega (arith, s .pre .1)))
-    held b h range last
+    let e : l .loop .i ≡ s .args .count = omega (arith, l .loop .inv .0, c .loop-test .left) in
+    λ x held.
+    condition-put (now (s .args .cells)) (s .args .n) _ _ _ (s .pre .room) (long a) (l .loop .all) (now (s .args .codes)) (s .args .count) (l .loop .i)
+    (record { sense = s .args .sense; threshold = s .args .threshold; expression = x }) (s .pre .few) held e (l .loop .inv .1)
+    (toZ-ofZ w32 (r .result) fits ∙ r .ensures)
+    (toZ-ofZ w32 (s .args .threshold) (s .fits .threshold))
+    (toZ-pos w32 (s .args .count) (omega (arith, s .pre .few)))
 
 pub put-condition-spec : {M : Type 1} → statement M
 put-condition-spec =

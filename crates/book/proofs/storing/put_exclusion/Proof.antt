@@ -5,43 +5,33 @@ use native.Mathlib.Omega.{arith}
 use borrow.Author.Needs.{needs}
 use denote.Ref.{now}
 use lib.IntN.{ℤ, pos, _+ℤ_}
-use lib.ListN.{length}
+use lib.ListN.{length, length-set}
 use mir.Syntax.{w32}
 use mir.Val.{SFits, toZ, ofZ}
 use mir.ValLaws.{toZ-pos, toZ-ofZ}
 use Rattle.book.specs.Cells.{cellCount}
-use Rattle.book.proofs.StoringLaws.{x-one-length, x-two-length, exclusion-put}
+use Rattle.book.proofs.StoredExclusions.{exclusion-put}
 use Rattle.book.proofs.storing.put_exclusion.Statement.{statement}
 use Rattle.book.proofs.storing.put_exclusion.Tie as tie
 
-abbrev start : tie.After-all → tie.Start
-start c = c .before .before .before
+abbrev begin : tie.After-all → tie.Start
+begin c = c .before .before .before
 
-long : (c : tie.After-all) → length (now (start c .args .cells)) ≡ cellCount
+long : (c : tie.After-all) → length (now (begin c .args .cells)) ≡ cellCount
 long c = search needs
 
 -- the number of exclusions so far
-abbrev n : tie.After-all → ℕ
-n c = c .before .exclusion-count .result
+abbrev count : tie.After-all → ℕ
+count c = c .before .exclusion-count .result
 
-few : (c : tie.After-all) → n c < 16
-few c = let k = start c .pre .0 in omega (arith, c .before .exclusion-count .ensures (k .exclusions) (k .held), start c .pre .1)
+few : (c : tie.After-all) → count c < 16
+few c = let p = begin c .pre in omega (arith, c .before .exclusion-count .ensures (p .kept .exclusions) (p .kept .held), p .room)
 
-n-back : (c : tie.After-all) → toZ w32 (n c) ≡ pos (n c)
-n-back c = toZ-pos w32 (n c) (omega (arith, few c))
+count-back : (c : tie.After-all) → toZ w32 (count c) ≡ pos (count c)
+count-back c = toZ-pos w32 (count c) (omega (arith, few c))
 
-next-fits : (c : tie.After-all) → SFits w32 (pos (n c + 1))
+next-fits : (c : tie.After-all) → SFits w32 (pos (count c + 1))
 next-fits c = record { sfits = omega (arith, few c) }
-
--- what is written, as it is read back
-abbrev first : tie.After-all → ℤ
-first c = toZ w32 (start c .args .first)
-
-abbrev second : tie.After-all → ℤ
-second c = toZ w32 (start c .args .second)
-
-abbrev counted : tie.After-all → ℤ
-counted c = toZ w32 (ofZ w32 (toZ w32 (n c) +ℤ pos 1))
 
 exclusion-count-requires : tie.Need-exclusion-count-requires
 exclusion-count-requires c κs = search needs
@@ -68,25 +58,26 @@ mul-all-2 : tie.Need-mul-all-2
 mul-all-2 c = record { fits = omega (arith, few c) }
 
 slice-set-from-all-2 : tie.Need-slice-set-from-all-2
-slice-set-from-all-2 c = omega (arith, few c, long c, x-one-length (now (start c .args .cells)) (n c) (first c) (second c) (counted c))
+slice-set-from-all-2 c = simp length-set (omega (arith, few c, long c))
 
 cast-all-3 : tie.Need-cast-all-3
 cast-all-3 c = record { sfits = omega (arith, few c) }
 
 add-all-3 : tie.Need-add-all-3
-add-all-3 c = subst (λ (z : ℤ). SFits w32 (z +ℤ pos 1)) (sym (n-back c)) (next-fits c)
+add-all-3 c = subst (λ (z : ℤ). SFits w32 (z +ℤ pos 1)) (sym (count-back c)) (next-fits c)
 
 slice-set-from-all-3 : tie.Need-slice-set-from-all-3
-slice-set-from-all-3 c = omega (arith, long c, x-two-length (now (start c .args .cells)) (n c) (first c) (second c) (counted c))
+slice-set-from-all-3 c = simp length-set (omega (arith, long c))
 
 returns : tie.Need-returns
-returns c = λ b h range.
-    let s = start c in
-    exclusion-put (now (s .args .cells)) (n c) (first c) (second c) (counted c) (few c) (long c) b (record { first = s .args .first; second = s .args .second }) h range
+returns c =
+    let s = begin c in
+    λ b h range fits.
+    exclusion-put (now (s .args .cells)) (count c) _ _ _ (few c) (long c) b (record { first = s .args .first; second = s .args .second }) h range
     (c .before .exclusion-count .ensures (b .exclusions) (h .exclusions))
-    (toZ-pos w32 (s .args .first) (omega (arith, s .pre .2)))
-    (toZ-pos w32 (s .args .second) (omega (arith, s .pre .3)))
-    (ap (λ (z : ℤ). toZ w32 (ofZ w32 (z +ℤ pos 1))) (n-back c) ∙ toZ-ofZ w32 (pos (n c + 1)) (next-fits c))
+    (toZ-pos w32 (s .args .first) (omega (arith, s .pre .firstSmall)))
+    (toZ-pos w32 (s .args .second) (omega (arith, s .pre .secondSmall)))
+    (ap (λ (z : ℤ). toZ w32 (ofZ w32 (z +ℤ pos 1))) (count-back c) ∙ toZ-ofZ w32 (pos (count c + 1)) (next-fits c))
 
 pub put-exclusion-spec : {M : Type 1} → statement M
 put-exclusion-spec =

@@ -4,7 +4,7 @@ use borrow.Author.Needs.{needs}
 use denote.Ref.{now}
 use lib.ListN.{length}
 use Rattle.book.specs.Cells.{cellCount}
-use Rattle.book.proofs.StoringLaws.{nothing-put}
+use Rattle.book.proofs.StoredExclusions.{nothing-put}
 use Rattle.book.proofs.storing.put_nothing.Statement.{statement}
 use Rattle.book.proofs.storing.put_nothing.Tie as tie
 

@@ -1,27 +1,19 @@
--- `book::storing::put_policy`: the first four cells of the policy are written.
+-- `book::storing::put_policy`: the first four cells of the policy are written, in a row.
 use mathlib.Core.Path.{_≡_, _∙_}
 use native.Mathlib.Omega.{arith}
 use borrow.Author.Needs.{needs}
 use denote.Ref.{now}
-use lib.IntN.{ℤ}
-use lib.ListN.{length}
+use lib.ListN.{length, length-set}
 use mir.Syntax.{w32}
-use mir.Val.{SFits, toZ, ofZ}
+use mir.Val.{SFits}
 use mir.ValLaws.{toZ-ofZ}
 use Rattle.book.specs.Cells.{cellCount}
-use Rattle.book.proofs.StoringLaws.{p-one-length, p-two-length, p-three-length, policy-put}
+use Rattle.book.proofs.StoredPolicies.{policy-put}
 use Rattle.book.proofs.storing.put_policy.Statement.{statement}
 use Rattle.book.proofs.storing.put_policy.Tie as tie
 
 long : (c : tie.After-all) → length (now (c .before .before .args .cells)) ≡ cellCount
 long c = search needs
-
--- what is written, as it is read back
-abbrev code : tie.After-all → ℤ
-code c = toZ w32 (ofZ w32 (c .before .operator-code .result))
-
-abbrev default : tie.After-all → ℤ
-default c = toZ w32 (ofZ w32 (c .before .before .args .default))
 
 operator-code-requires : tie.Need-operator-code-requires
 operator-code-requires c κs = search needs
@@ -45,7 +37,7 @@ mul-default-2 : tie.Need-mul-default-2
 mul-default-2 c = search needs
 
 slice-set-from-default : tie.Need-slice-set-from-default
-slice-set-from-default c = let s = c .before .before in omega (arith, s .pre, long c, p-one-length (now (s .args .cells)) (s .args .k) (code c) (default c))
+slice-set-from-default c = simp length-set (omega (arith, c .before .before .pre, long c))
 
 mul-all : tie.Need-mul-all
 mul-all c = search needs
@@ -57,7 +49,7 @@ mul-all-2 : tie.Need-mul-all-2
 mul-all-2 c = search needs
 
 slice-set-of-all : tie.Need-slice-set-of-all
-slice-set-of-all c = let s = c .before .before in omega (arith, s .pre, long c, p-two-length (now (s .args .cells)) (s .args .k) (code c) (default c))
+slice-set-of-all c = simp length-set (omega (arith, c .before .before .pre, long c))
 
 mul-all-3 : tie.Need-mul-all-3
 mul-all-3 c = search needs
@@ -69,14 +61,14 @@ mul-all-4 : tie.Need-mul-all-4
 mul-all-4 c = search needs
 
 slice-set-of-all-2 : tie.Need-slice-set-of-all-2
-slice-set-of-all-2 c = let s = c .before .before in omega (arith, s .pre, long c, p-three-length (now (s .args .cells)) (s .args .k) (code c) (default c))
+slice-set-of-all-2 c = simp length-set (omega (arith, c .before .before .pre, long c))
 
 returns : tie.Need-returns
 returns c =
     let s = c .before .before in
     let r = c .before .operator-code in
     let fits : SFits w32 (r .result) = search needs in
-    policy-put (now (s .args .cells)) (s .args .k) (code c) (default c) (s .args .o) (s .args .default) (s .pre) (long c) (toZ-ofZ w32 (r .result) fits ∙ r .ensures)
+    policy-put (now (s .args .cells)) (s .args .k) _ _ (s .args .operator) (s .args .default) (s .pre) (long c) (toZ-ofZ w32 (r .result) fits ∙ r .ensures)
     (toZ-ofZ w32 (s .args .default) (s .fits .default))
 
 pub put-policy-spec : {M : Type 1} → statement M

@@ -1,4 +1,4 @@
--- `book::storing::put_rule`: the rule's signal and score are written behind the others, and the count and the set of signals anew.
+-- `book::storing::put_rule`: the rule's signal and score are written after the others, and the count and the set of signals anew.
 use Prim.Native.Nat.{ℕ, _+_, _^_, _<_}
 use mathlib.Core.List.{[], _∷_}
 use mathlib.Core.Path.{_≡_, refl, sym, ap, ap₂, subst, _∙_}
@@ -6,34 +6,37 @@ use native.Mathlib.Omega.{arith}
 use borrow.Author.Needs.{needs}
 use denote.Ref.{now}
 use lib.IntN.{ℤ, pos, _+ℤ_}
-use lib.ListN.{length}
+use lib.ListN.{length, length-set}
 use mir.Syntax.{w16, w32}
 use mir.Val.{Fits, SFits, toZ, ofZ}
 use mir.ValLaws.{toZ-pos, toZ-ofZ}
 use Rattle.signals.proofs.SetOfLaws.{set-below}
 use Rattle.book.specs.Acceptance.{lastPolicy}
 use Rattle.book.specs.Cells.{cellCount}
-use Rattle.book.proofs.StoringLaws.{r-one-length, r-two-length, r-three-length, last-held, rule-put}
+use Rattle.book.proofs.StoredPolicies.{last-held, rule-put}
 use Rattle.book.proofs.storing.put_rule.Statement.{statement}
 use Rattle.book.proofs.storing.put_rule.Tie as tie
 
-abbrev start : tie.After-all → tie.Start
-start c = c .before .before .before .before .before .before
+abbrev begin : tie.After-all → tie.Start
+begin c = c .before .before .before .before .before .before
 
-long : (c : tie.After-all) → length (now (start c .args .cells)) ≡ cellCount
+long : (c : tie.After-all) → length (now (begin c .args .cells)) ≡ cellCount
 long c = search needs
 
 -- the number of rules so far
-abbrev n : tie.After-all → ℕ
-n c = c .before .before .before .before .count-at .result
+abbrev counted : (c : tie.After-all) → tie.After-count-at
+counted c = c .before .before .before .before
 
-few : (c : tie.After-all) → n c < 16
-few c = let k = start c .pre .0 in omega (arith, c .before .before .before .before .count-at .ensures (k .policy) (k .held), start c .pre .1)
+abbrev count : tie.After-all → ℕ
+count c = counted c .count-at .result
 
-n-back : (c : tie.After-all) → toZ w32 (n c) ≡ pos (n c)
-n-back c = toZ-pos w32 (n c) (omega (arith, few c))
+few : (c : tie.After-all) → count c < 16
+few c = let p = begin c .pre in omega (arith, counted c .count-at .ensures (p .kept .policy) (p .kept .held), p .room)
 
-next-fits : (c : tie.After-all) → SFits w32 (pos (n c + 1))
+count-back : (c : tie.After-all) → toZ w32 (count c) ≡ pos (count c)
+count-back c = toZ-pos w32 (count c) (omega (arith, few c))
+
+next-fits : (c : tie.After-all) → SFits w32 (pos (count c + 1))
 next-fits c = record { sfits = omega (arith, few c) }
 
 -- the set with the signal
@@ -41,20 +44,7 @@ small : (c : tie.After-bit) → c .before .mask-at .result + c .bit .result < 2 
 small c =
     let s = c .before .before .before .before .before in
     let fits : Fits w16 (c .before .mask-at .result) = search needs in
-    omega (arith, fits .fits, c .bit .ensures, set-below 16 (s .args .signal ∷ []) (s .pre .2, tt) (refl, tt))
-
--- what is written, as it is read back
-abbrev signal : tie.After-all → ℤ
-signal c = toZ w32 (start c .args .signal)
-
-abbrev score : tie.After-all → ℤ
-score c = toZ w32 (ofZ w32 (start c .args .score))
-
-abbrev counted : tie.After-all → ℤ
-counted c = toZ w32 (ofZ w32 (toZ w32 (n c) +ℤ pos 1))
-
-abbrev mask : tie.After-all → ℤ
-mask c = toZ w32 (c .before .before .mask-at .result + c .before .bit .result)
+    omega (arith, fits .fits, c .bit .ensures, set-below 16 (s .args .signal ∷ []) (s .pre .small, tt) (refl, tt))
 
 count-at-requires : tie.Need-count-at-requires
 count-at-requires c κs = search needs
@@ -62,14 +52,14 @@ count-at-requires c κs = search needs
 mask-at-requires : tie.Need-mask-at-requires
 mask-at-requires c κs = search needs
 
-cast-with-signal : tie.Need-cast-with-signal
-cast-with-signal c = search needs
+cast-mask : tie.Need-cast-mask
+cast-mask c = search needs
 
 bit-requires : tie.Need-bit-requires
 bit-requires c κs = search needs
 
-add-with-signal : tie.Need-add-with-signal
-add-with-signal c = record { fits = omega (arith, small c) }
+add-mask : tie.Need-add-mask
+add-mask c = record { fits = omega (arith, small c) }
 
 cast-all : tie.Need-cast-all
 cast-all c = search needs
@@ -81,13 +71,13 @@ add-all : tie.Need-add-all
 add-all c = search needs
 
 add-all-2 : tie.Need-add-all-2
-add-all-2 c = record { fits = omega (arith, few c, start c .pre .0 .below) }
+add-all-2 c = record { fits = omega (arith, few c, begin c .pre .kept .below) }
 
 mul-all-2 : tie.Need-mul-all-2
-mul-all-2 c = record { fits = omega (arith, few c, start c .pre .0 .below) }
+mul-all-2 c = record { fits = omega (arith, few c, begin c .pre .kept .below) }
 
 slice-set-from-all : tie.Need-slice-set-from-all
-slice-set-from-all c = omega (arith, few c, start c .pre .0 .below, long c)
+slice-set-from-all c = omega (arith, few c, begin c .pre .kept .below, long c)
 
 mul-score : tie.Need-mul-score
 mul-score c = search needs
@@ -96,19 +86,19 @@ add-score : tie.Need-add-score
 add-score c = search needs
 
 add-score-2 : tie.Need-add-score-2
-add-score-2 c = record { fits = omega (arith, few c, start c .pre .0 .below) }
+add-score-2 c = record { fits = omega (arith, few c, begin c .pre .kept .below) }
 
 mul-score-2 : tie.Need-mul-score-2
-mul-score-2 c = record { fits = omega (arith, few c, start c .pre .0 .below) }
+mul-score-2 c = record { fits = omega (arith, few c, begin c .pre .kept .below) }
 
 slice-set-from-score : tie.Need-slice-set-from-score
-slice-set-from-score c = let s = start c in omega (arith, few c, s .pre .0 .below, long c, r-one-length (now (s .args .cells)) (s .args .k) (n c) (signal c) (score c) (counted c) (mask c))
+slice-set-from-score c = simp length-set (omega (arith, few c, begin c .pre .kept .below, long c))
 
 cast-all-2 : tie.Need-cast-all-2
 cast-all-2 c = record { sfits = omega (arith, few c) }
 
 add-all-3 : tie.Need-add-all-3
-add-all-3 c = subst (λ (z : ℤ). SFits w32 (z +ℤ pos 1)) (sym (n-back c)) (next-fits c)
+add-all-3 c = subst (λ (z : ℤ). SFits w32 (z +ℤ pos 1)) (sym (count-back c)) (next-fits c)
 
 mul-t16 : tie.Need-mul-t16
 mul-t16 c = search needs
@@ -120,7 +110,7 @@ mul-t18 : tie.Need-mul-t18
 mul-t18 c = search needs
 
 slice-set-from-all-2 : tie.Need-slice-set-from-all-2
-slice-set-from-all-2 c = let s = start c in omega (arith, few c, s .pre .0 .below, long c, r-two-length (now (s .args .cells)) (s .args .k) (n c) (signal c) (score c) (counted c) (mask c))
+slice-set-from-all-2 c = simp length-set (omega (arith, begin c .pre .kept .below, long c))
 
 cast-all-3 : tie.Need-cast-all-3
 cast-all-3 c = record { sfits = omega (arith, small (c .before)) }
@@ -135,19 +125,21 @@ mul-t16-2 : tie.Need-mul-t16-2
 mul-t16-2 c = search needs
 
 slice-set-from-all-3 : tie.Need-slice-set-from-all-3
-slice-set-from-all-3 c = let s = start c in omega (arith, few c, s .pre .0 .below, long c, r-three-length (now (s .args .cells)) (s .args .k) (n c) (signal c) (score c) (counted c) (mask c))
+slice-set-from-all-3 c = simp length-set (omega (arith, begin c .pre .kept .below, long c))
 
 returns : tie.Need-returns
-returns c = λ b h range last.
-    let s = start c in
+returns c =
+    let s = begin c in
+    let m = c .before .before in
+    λ b h range last.
     let held = last-held h last in
-    rule-put (now (s .args .cells)) (s .args .k) (n c) (signal c) (score c) (counted c) (mask c) (s .pre .0 .below) (few c) (long c) b (record { signal = s .args .signal; score = s .args .score }) h range last
-    (c .before .before .before .before .count-at .ensures (lastPolicy b) held)
-    (toZ-pos w32 (s .args .signal) (omega (arith, s .pre .2)))
+    rule-put (now (s .args .cells)) (s .args .k) (count c) _ _ _ _ (s .pre .kept .below) (few c) (long c) b (record { signal = s .args .signal; score = s .args .score }) h range last
+    (counted c .count-at .ensures (lastPolicy b) held)
+    (toZ-pos w32 (s .args .signal) (omega (arith, s .pre .small)))
     (toZ-ofZ w32 (s .args .score) (s .fits .score))
-    (ap (λ (z : ℤ). toZ w32 (ofZ w32 (z +ℤ pos 1))) (n-back c) ∙ toZ-ofZ w32 (pos (n c + 1)) (next-fits c))
-    (toZ-pos w32 (c .before .before .mask-at .result + c .before .bit .result) (omega (arith, small (c .before)))
-    ∙ ap pos (ap₂ _+_ (c .before .before .mask-at .ensures (lastPolicy b) held) (c .before .bit .ensures)))
+    (ap (λ (z : ℤ). toZ w32 (ofZ w32 (z +ℤ pos 1))) (count-back c) ∙ toZ-ofZ w32 (pos (count c + 1)) (next-fits c))
+    (toZ-pos w32 (m .mask-at .result + c .before .bit .result) (omega (arith, small (c .before)))
+    ∙ ap pos (ap₂ _+_ (m .mask-at .ensures (lastPolicy b) held) (c .before .bit .ensures)))
 
 pub put-rule-spec : {M : Type 1} → statement M
 put-rule-spec =
@@ -155,9 +147,9 @@ put-rule-spec =
     (tie.spec
     count-at-requires
     mask-at-requires
-    cast-with-signal
+    cast-mask
     bit-requires
-    add-with-signal
+    add-mask
     cast-all
     mul-all
     add-all
