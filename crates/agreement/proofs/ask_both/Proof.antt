@@ -1,13 +1,13 @@
 -- `agreement::ask_both`: compiling's refusal passed up, or what rod and logger say, which is one.
 use mathlib.Core.Path.{_≡_, sym, ap, _∙_}
+use native.Mathlib.Omega.{arith}
 use borrow.Author.Needs.{needs}
 use denote.Ref.{now}
 use lib.ListN.{length}
-use lib.Seq.{length-take-le}
 use Rattle.compiler.specs.Compiling.{compiled, returned}
 use Rattle.compiler.specs.Meaning.{compiledMeaning}
 use Rattle.compiler.specs.declared.Compiled.{Compiled}
-use Rattle.compiler.proofs.CompiledLaws.{CompiledFrom, returned-from}
+use Rattle.compiler.proofs.CompiledLaws.{returned-from}
 use Rattle.agreement.proofs.BothLaws.{both-refused, both-said, both-held}
 use Rattle.agreement.proofs.ask_both.Statement.{statement}
 use Rattle.agreement.proofs.ask_both.Tie as tie
@@ -23,25 +23,13 @@ told : (c : tie.After-compile) (v : Compiled) → c .compile .result ≡ v → l
     compiledMeaning v ≡ returned (compiled (now (s .args .bytes)) (s .args .condition) (length (now (s .args .words))))
 told c v e = sym (ap compiledMeaning e) ∙ c .compile .ensures .returning
 
--- what compiling made where it returned a number of records
-made : (c : tie.After-answer) → let s = c .before .before .before .before .before .before .before .before in
-    CompiledFrom (now (s .args .bytes)) (s .args .condition) (now (s .args .words)) (c .answer .given .0 .0)
-made c = returned-from (c .before .before .before .before .compile .ensures) (c .answer .given .1)
-
-mul-end : tie.Need-mul-end
-mul-end c = let h = made (c .before) .room in search needs
-
-slice-reshare-prefix-decide : tie.Need-slice-reshare-prefix-decide
-slice-reshare-prefix-decide c = let h = made (c .before) .room in search needs
-
-slice-aggregate-decide : tie.Need-slice-aggregate-decide
-slice-aggregate-decide c = sym (length-take-le _ _ (slice-reshare-prefix-decide (c .before)))
+read-compiled-requires : tie.Need-read-compiled-requires
+read-compiled-requires c κs =
+    let a = c .before .before in
+    omega (arith, returned-from (a .before .before .before .before .compile .ensures) (a .answer .given .1) .room)
 
 decide-requires : tie.Need-decide-requires
 decide-requires c κs = search needs
-
-decide-requires-2 : tie.Need-decide-requires-2
-decide-requires-2 c κs = search needs
 
 enum-known-answer-2 : tie.Need-enum-known-answer-2
 enum-known-answer-2 c = search needs
@@ -54,14 +42,15 @@ same-length c = search needs
 
 returns : tie.Need-returns
 returns c =
-    let a = c .before .before .before .before in
+    let r = c .before in
+    let a = r .before .before .before in
     let x = a .before .before .before .before in
     let e = told x _ (a .answer .given .1) in
     let left = x .compile .ensures .leaving in
-    let rod = c .before .decide .result in
-    let logger = c .decide2 .result in
-    let read = c .before .decide .ensures in
-    let scored = c .decide2 .ensures in
+    let rod = r .read-compiled .result in
+    let logger = c .decide .result in
+    let read = r .read-compiled .ensures in
+    let scored = c .decide .ensures in
     (both-said _ _ _ _ _ e _ left rod logger read scored, (left, both-held _ _ _ _ _ e _ left rod logger read scored))
 
 same-length-2 : tie.Need-same-length-2
@@ -83,5 +72,16 @@ returns-3 c =
 pub ask-both-spec : {M : Type 1} → statement M
 ask-both-spec =
     tie.close
-    (tie.spec compile-requires enum-known-answer mul-end slice-reshare-prefix-decide slice-aggregate-decide decide-requires decide-requires-2 enum-known-answer-2
-    enum-told same-length returns same-length-2 returns-2 same-length-3 returns-3)
+    (tie.spec
+    compile-requires
+    enum-known-answer
+    read-compiled-requires
+    decide-requires
+    enum-known-answer-2
+    enum-told
+    same-length
+    returns
+    same-length-2
+    returns-2
+    same-length-3
+    returns-3)

@@ -41,29 +41,11 @@ accepted-choice-requires-2 c κs =
 enum-known-c-3 : tie.Need-enum-known-c-3
 enum-known-c-3 c = search needs
 
-cast-value : tie.Need-cast-value
-cast-value c = search needs
-
-mul-value : tie.Need-mul-value
-mul-value c = search needs
-
-add-value : tie.Need-add-value
-add-value c = search needs
-
-cast-value-2 : tie.Need-cast-value-2
-cast-value-2 c = search needs
-
-mul-value-2 : tie.Need-mul-value-2
-mul-value-2 c = search needs
-
-add-value-2 : tie.Need-add-value-2
-add-value-2 c = search needs
-
-accepted-choice-requires-3 : tie.Need-accepted-choice-requires-3
-accepted-choice-requires-3 c κs =
+accepted-both-requires : tie.Need-accepted-both-requires
+accepted-both-requires c κs =
     let a = c .before in
     let f = chosen-fits _ _ (answer (a .before .before) _ (a .c3 .given .1)) in
-    (omega (arith, f .sets .0, f .sets .1), f .some, f .few)
+    (f .some, f .few)
 
 enum-known-c-4 : tie.Need-enum-known-c-4
 enum-known-c-4 c = search needs
@@ -81,7 +63,7 @@ returns-2 c = let a = c .before .before in c .accepted-choice2 .ensures ∙ ap (
 
 returns-3 : tie.Need-returns-3
 unfolding packed choiceValue chosenValue
-returns-3 c = let a = c .before .before in c .accepted-choice3 .ensures ∙ ap (packed chosenValue) (answer (a .before .before) _ (a .c3 .given .1))
+returns-3 c = let a = c .before .before in c .accepted-both .ensures ∙ ap (packed chosenValue) (answer (a .before .before) _ (a .c3 .given .1))
 
 returns-4 : tie.Need-returns-4
 unfolding packed
@@ -97,13 +79,7 @@ cerahupo-choice-spec =
     enum-known-c-2
     accepted-choice-requires-2
     enum-known-c-3
-    cast-value
-    mul-value
-    add-value
-    cast-value-2
-    mul-value-2
-    add-value-2
-    accepted-choice-requires-3
+    accepted-both-requires
     enum-known-c-4
     refused-listing-requires
     returns

@@ -24,32 +24,14 @@ accepted-requires c κs = search needs
 enum-known-c : tie.Need-enum-known-c
 enum-known-c c = search needs
 
-cast-value : tie.Need-cast-value
-cast-value c = search needs
-
-mul-value : tie.Need-mul-value
-mul-value c = search needs
-
-add-value : tie.Need-add-value
-add-value c = search needs
-
-accepted-requires-2 : tie.Need-accepted-requires-2
-accepted-requires-2 c κs = search needs
+accepted-difference-requires : tie.Need-accepted-difference-requires
+accepted-difference-requires c κs = search needs
 
 enum-known-c-2 : tie.Need-enum-known-c-2
 enum-known-c-2 c = search needs
 
-cast-value-2 : tie.Need-cast-value-2
-cast-value-2 c = search needs
-
-mul-value-2 : tie.Need-mul-value-2
-mul-value-2 c = search needs
-
-add-value-2 : tie.Need-add-value-2
-add-value-2 c = search needs
-
-accepted-requires-3 : tie.Need-accepted-requires-3
-accepted-requires-3 c κs = search needs
+accepted-difference-requires-2 : tie.Need-accepted-difference-requires-2
+accepted-difference-requires-2 c κs = search needs
 
 enum-known-c-3 : tie.Need-enum-known-c-3
 enum-known-c-3 c = search needs
@@ -80,11 +62,11 @@ returns c = let a = c .before in c .accepted .ensures ∙ ap packedComparison (a
 
 returns-2 : tie.Need-returns-2
 unfolding packedComparison
-returns-2 c = let a = c .before .before in c .accepted2 .ensures ∙ ap packedComparison (answer (a .before .before) _ (a .c .given .1))
+returns-2 c = let a = c .before .before in c .accepted-difference .ensures ∙ ap packedComparison (answer (a .before .before) _ (a .c .given .1))
 
 returns-3 : tie.Need-returns-3
 unfolding packedComparison
-returns-3 c = let a = c .before .before in c .accepted3 .ensures ∙ ap packedComparison (answer (a .before .before) _ (a .c2 .given .1))
+returns-3 c = let a = c .before .before in c .accepted-difference2 .ensures ∙ ap packedComparison (answer (a .before .before) _ (a .c2 .given .1))
 
 returns-4 : tie.Need-returns-4
 unfolding packedComparison
@@ -102,15 +84,9 @@ cerahupo-compare-spec =
     enum-told
     accepted-requires
     enum-known-c
-    cast-value
-    mul-value
-    add-value
-    accepted-requires-2
+    accepted-difference-requires
     enum-known-c-2
-    cast-value-2
-    mul-value-2
-    add-value-2
-    accepted-requires-3
+    accepted-difference-requires-2
     enum-known-c-3
     refused-listing-requires
     enum-known-c-4
