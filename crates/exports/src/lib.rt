@@ -10,8 +10,8 @@ ghost use Rattle.checks.specs.Checks.{chosen, comparison};
 ghost use Rattle.book.specs.Books.{checked};
 ghost use Rattle.book.specs.Meaning.{reasonNumber, declinedNumber, declinedValue};
 ghost use Rattle.score.specs.Decisions.{scoredAnswer};
-ghost use Rattle.exports.specs.Packing.{fromBit5, fromBit16, fromBit32, fromBit48, valueEnd, asOne, packed, countsValue, chosenValue, packedComparison};
-ghost use Rattle.exports.specs.Packing.{ScoreTold, CompilingTold, TraverseTold};
+ghost use Rattle.exports.specs.Packing.{fromBit5, fromBit16, fromBit32, fromBit48, valueEnd, asOne, packed};
+ghost use Rattle.exports.specs.Packing.{countsValue, ScoreTold, CompilingTold, TraverseTold, chosenValue, packedComparison};
 
 // The weight of a value in the number: it begins at bit 5, after the code.
 const FROM_BIT_5: u64 = 1 << 5;

@@ -70,14 +70,14 @@ returns c =
     let t = c .before in
     let e = t .before .before .before in
     let told = answer (e .before .before) _ (e .evaluation .given .1) in
-    record { number = c .accepted .ensures ∙ ap (λ (z : ℤ). asOne 0 (natAbs z)) (sum-back t) ∙ ap (packed scoreValue) told; remainder = ap (remainderAfter _) told }
+    record { packing = c .accepted .ensures ∙ ap (λ (z : ℤ). asOne 0 (natAbs z)) (sum-back t) ∙ ap (packed scoreValue) told; leaving = ap (remainderAfter _) told }
 
 returns-2 : tie.Need-returns-2
 unfolding packed remainderAfter
 returns-2 c =
     let a = c .before .before in
     let told = answer (a .before .before) _ (a .evaluation2 .given .1) in
-    record { number = c .declined .ensures ∙ ap (packed scoreValue) told; remainder = ap (remainderAfter _) told }
+    record { packing = c .declined .ensures ∙ ap (packed scoreValue) told; leaving = ap (remainderAfter _) told }
 
 pub cerahupo-score-spec : {M : Type 1} → statement M
 cerahupo-score-spec =
