@@ -1,12 +1,9 @@
 -- `agreement::compile_and_read`: compiling's refusal passed up, or the rod's answer on the first words.
-use mathlib.Core.Path.{_≡_, sym, ap, _∙_}
+use mathlib.Core.Path.{_∙_}
 use native.Mathlib.Omega.{arith}
 use borrow.Author.Needs.{needs}
-use denote.Ref.{now}
-use lib.ListN.{length}
-use Rattle.compiler.specs.Compiling.{compiled, returned}
+use Rattle.answers.proofs.Results.{in-arm}
 use Rattle.compiler.specs.Meaning.{compiledMeaning}
-use Rattle.compiler.specs.declared.Compiled.{Compiled}
 use Rattle.compiler.proofs.CompiledLaws.{returned-from}
 use Rattle.agreement.proofs.Readings.{reading-by, reading-of}
 use Rattle.agreement.proofs.compile_and_read.Statement.{statement}
@@ -17,11 +14,6 @@ compile-requires c κs = search needs
 
 enum-known-compiled : tie.Need-enum-known-compiled
 enum-known-compiled c = search needs
-
--- the answer in an arm is the definition's
-told : (c : tie.After-compile) (v : Compiled) → c .compile .result ≡ v → let s = c .before .before .before .before in
-    compiledMeaning v ≡ returned (compiled (now (s .args .bytes)) (s .args .condition) (length (now (s .args .words))))
-told c v e = sym (ap compiledMeaning e) ∙ c .compile .ensures .returning
 
 read-compiled-requires : tie.Need-read-compiled-requires
 read-compiled-requires c κs =
@@ -42,7 +34,7 @@ returns c =
     let a = c .before .before .before in
     let x = a .before .before .before .before in
     let left = x .compile .ensures .leaving in
-    (c .read-compiled .ensures ∙ reading-of _ _ _ _ _ (told x _ (a .compiled .given .1)) left, left)
+    (c .read-compiled .ensures ∙ reading-of _ _ _ _ _ (in-arm compiledMeaning (x .compile .ensures .returning) (a .compiled .given .1)) left, left)
 
 same-length-2 : tie.Need-same-length-2
 same-length-2 c = search needs
@@ -50,7 +42,7 @@ same-length-2 c = search needs
 returns-2 : tie.Need-returns-2
 returns-2 c =
     let x = c .before .before .before .before .before in
-    (reading-by _ _ _ _ _ (told x _ (c .before .compiled2 .given .1)), x .compile .ensures .leaving)
+    (reading-by _ _ _ _ _ (in-arm compiledMeaning (x .compile .ensures .returning) (c .before .compiled2 .given .1)), x .compile .ensures .leaving)
 
 same-length-3 : tie.Need-same-length-3
 same-length-3 c = search needs
@@ -58,7 +50,7 @@ same-length-3 c = search needs
 returns-3 : tie.Need-returns-3
 returns-3 c =
     let x = c .before .before .before .before in
-    (reading-by _ _ _ _ _ (told x _ (c .enum-told .given .1)), x .compile .ensures .leaving)
+    (reading-by _ _ _ _ _ (in-arm compiledMeaning (x .compile .ensures .returning) (c .enum-told .given .1)), x .compile .ensures .leaving)
 
 pub compile-and-read-spec : {M : Type 1} → statement M
 compile-and-read-spec =
