@@ -1,10 +1,9 @@
 -- What rod and logger say of a condition just compiled, by what compiling returned.
-use Prim.Native.Nat.{ℕ, _*_}
+use Prim.Native.Nat.{ℕ}
 use mathlib.Core.Bool.{Bool}
 use mathlib.Core.List.{List}
 use mathlib.Core.Path.{_≡_, refl, sym, ap, ap₂, subst, _∙_}
-use native.Mathlib.Omega.{arith}
-use lib.ListN.{length, take}
+use lib.ListN.{length}
 use Rattle.answers.specs.Answers.{Answer, result, refused, onResult}
 use Rattle.answers.proofs.Results.{result-is, gone-on, passed-up}
 use Rattle.layout.specs.Records.{Record}
@@ -48,17 +47,10 @@ module _ (bytes : List ℕ) (number set : ℕ) (lent : List ℕ) where
   both-by b c rs a f = rw (a, f) refl
 
   module _ (n : ℕ) (e : result n ≡ answered) where
-    -- the code hands the rod the first n * 4 words
-    listing-words : (left : List ℕ) → left ≡ leftBy bytes number lent → take (n * 4) left ≡ compiledListing n (leftBy bytes number lent)
-    unfolding compiledListing
-    listing-words left f =
-        let k : n * 4 ≡ 4 * n = omega arith in
-        ap (λ (i : ℕ). take i left) k ∙ ap (λ (ws : List ℕ). take (4 * n) ws) f
-
     module _ (left : List ℕ) (f : left ≡ leftBy bytes number lent) (rod : RodDecision) (logger : LoggerDecision)
-        (r : rodMeaning rod ≡ rodAnswer (take (n * 4) left) set) (l : scoreMeaning logger ≡ scoredAnswer bytes number set) where
+        (r : rodMeaning rod ≡ rodAnswer (compiledListing n left) set) (l : scoreMeaning logger ≡ scoredAnswer bytes number set) where
       by-listing : rodMeaning rod ≡ rodAnswer (compiledListing n (leftBy bytes number lent)) set
-      by-listing = r ∙ ap (λ (ws : List ℕ). rodAnswer ws set) (listing-words left f)
+      by-listing = r ∙ ap (λ (ws : List ℕ). rodAnswer (compiledListing n ws) set) f
 
       pub both-said : saying n (rodMeaning rod) (scoreMeaning logger) ≡ bothSay bytes number set (length lent)
       unfolding returned compiled

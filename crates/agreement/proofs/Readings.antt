@@ -1,10 +1,9 @@
 -- The rod's reading of a condition just compiled, by what compiling returned.
-use Prim.Native.Nat.{ℕ, _*_}
+use Prim.Native.Nat.{ℕ}
 use mathlib.Core.Bool.{Bool}
 use mathlib.Core.List.{List}
 use mathlib.Core.Path.{_≡_, ap, _∙_}
-use native.Mathlib.Omega.{arith}
-use lib.ListN.{length, take}
+use lib.ListN.{length}
 use Rattle.answers.specs.Answers.{Answer, result, onResult}
 use Rattle.rod.specs.Reading.{rodAnswer}
 use Rattle.compiler.specs.Compiling.{compiled, returned, leftBy, compiledListing}
@@ -19,10 +18,7 @@ module _ (bytes : List ℕ) (number set : ℕ) (lent : List ℕ) where
   unfolding compiledReading
   reading-by a e = ap (λ (a : Answer ℕ). onResult a said) e
 
-  -- the code hands the rod the first n * 4 words
-  pub reading-first : (n : ℕ) (left : List ℕ) → result n ≡ returned (compiled bytes number (length lent)) → left ≡ leftBy bytes number lent
-      → rodAnswer (take (n * 4) left) set ≡ compiledReading bytes number set lent
-  unfolding compiledListing
-  reading-first n left e f =
-      let k : n * 4 ≡ 4 * n = omega arith in
-      ap (λ (i : ℕ). rodAnswer (take i left) set) k ∙ ap (λ (ws : List ℕ). rodAnswer (compiledListing n ws) set) f ∙ reading-by (result n) e
+  -- what the rod said of the words that were left
+  pub reading-of : (n : ℕ) {left : List ℕ} → result n ≡ returned (compiled bytes number (length lent)) → left ≡ leftBy bytes number lent
+      → rodAnswer (compiledListing n left) set ≡ compiledReading bytes number set lent
+  reading-of n e f = ap (λ (ws : List ℕ). rodAnswer (compiledListing n ws) set) f ∙ reading-by (result n) e

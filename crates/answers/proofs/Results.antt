@@ -1,7 +1,7 @@
--- Answers that are results.
+-- Answers: results, refusals passed up, and what an answer means.
 use Prim.Native.Nat.{ℕ}
 use mathlib.Core.Bool.{Bool, true, false}
-use mathlib.Core.Path.{_≡_, refl, sym, ap}
+use mathlib.Core.Path.{_≡_, refl, sym, ap, _∙_}
 use native.Mathlib.Omega.{arith}
 use Rattle.answers.specs.Answers.{Answer, result, refused, onResult, require}
 
@@ -10,6 +10,10 @@ no-refusal h = let z : _≡_ {A = ℕ} 0 1 = cc in absurd (omega arith)
 
 pub result-is : {A : Type 0} {x y : A} → result x ≡ result y → x ≡ y
 result-is h = cc
+
+-- what is known of an answer by its meaning, where it is known which answer it is
+pub in-arm : {E A : Type 0} (meaning : E → A) {x v : E} {a : A} → meaning x ≡ a → x ≡ v → meaning v ≡ a
+in-arm meaning h e = sym (ap meaning e) ∙ h
 
 -- a required test holds, and the result is what follows it
 pub required : {A : Type 0} (t : Bool) (k v : ℕ) (a : Answer A) (x : A) → require t k v a ≡ result x → (t ≡ true) × (a ≡ result x)
@@ -20,6 +24,10 @@ required false k v a x h = no-refusal (sym h)
 pub gone-on : {A B : Type 0} (a : Answer A) (f : A → Answer B) (y : B) → onResult a f ≡ result y → (x : A) × (a ≡ result x) × (f x ≡ result y)
 gone-on (result x) f y h = (x, refl, h)
 gone-on (refused k v) f y h = no-refusal (sym h)
+
+-- equal answers are gone on from alike; where the second is known, that is to its result or its refusal
+pub on-equal : {A B : Type 0} {a b : Answer A} (f : A → Answer B) → a ≡ b → onResult b f ≡ onResult a f
+on-equal {A} f e = sym (ap (λ (x : Answer A). onResult x f) e)
 
 -- a refusal where every result is gone on to was there before
 pub passed-up : {A B : Type 0} (a : Answer A) (f : A → B) (k v : ℕ) → onResult a (λ x. result (f x)) ≡ refused k v → a ≡ refused k v

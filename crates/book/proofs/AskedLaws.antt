@@ -1,11 +1,11 @@
 -- The condition that was asked for: what a check told of it, as the code has it, and that it is in range.
 use Prim.Native.Nat.{ℕ, _≤_, _<_}
 use mathlib.Core.List.{List}
-use mathlib.Core.Path.{_≡_, sym, ap, subst}
+use mathlib.Core.Path.{_≡_, sym, subst}
 use native.Mathlib.Omega.{arith}
 use lib.IntN.{ℤ}
 use lib.ListN.{length}
-use Rattle.answers.specs.Answers.{Answer, result, refused, onResult}
+use Rattle.answers.specs.Answers.{result, refused}
 use Rattle.answers.proofs.Results.{result-is, gone-on}
 use Rattle.peal.specs.Policies.{Condition, Book}
 use Rattle.book.specs.Books.{read, Counts, checked, conditionAt, asked}
@@ -27,10 +27,6 @@ asked-in-range bytes number b c e =
     let (d, g, h) = gone-on (conditionAt (k .conditions) number) _ (b, c) f in
     let range = read-in-range bytes k r in
     subst InRange (result-is h) (range, each-condition (ConditionInRange (length (k .policies))) (k .conditions) number d (range .conditions) g)
-
--- what follows from what was asked for: an answer about the condition, or the refusal passed up
-pub on-asked : {asked told : Answer (Book × Condition)} {A : Type 0} (f : Book × Condition → Answer A) → asked ≡ told → onResult told f ≡ onResult asked f
-on-asked f e = sym (ap (λ (a : Answer (Book × Condition)). onResult a f) e)
 
 -- ---- what a check told
 

@@ -8,7 +8,7 @@ use lib.ListN.{length, take, drop}
 use lib.Seq.{take-append-seam}
 use borrow.Author.Tests.{leb-true}
 use Rattle.answers.specs.Answers.{Answer, result}
-use Rattle.answers.proofs.Results.{result-is, required, gone-on}
+use Rattle.answers.proofs.Results.{result-is, in-arm, required, gone-on}
 use Rattle.layout.specs.Records.{Record, words}
 use Rattle.layout.proofs.WordLaws.{length-words}
 use Rattle.peal.specs.Policies.{Condition, Book}
@@ -53,4 +53,4 @@ compiled-from bytes number lent n e =
 -- the same, from the promise of `compile` where it returned that number
 pub returned-from : {bytes : List ℕ} {number : ℕ} {lent left : List ℕ} {answer : Compiled} {n : ℕ}
     → CompilingRan bytes number lent left answer → answer ≡ Records n → CompiledFrom bytes number lent n
-returned-from {bytes} {number} {lent} {n = n} ran e = compiled-from bytes number lent n (sym (ran .returning) ∙ ap compiledMeaning e)
+returned-from {bytes} {number} {lent} {n = n} ran e = compiled-from bytes number lent n (sym (in-arm compiledMeaning (ran .returning) e))

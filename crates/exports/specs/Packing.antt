@@ -1,17 +1,17 @@
 -- An answer as the one number that a call returns: bits 0 to 4 hold a code, the bits from 5 on hold the value.
 -- The code is 0 where the call was accepted, and else the refusal's number: 1 to 11 today, and there is room up to 20;
 -- the refusals 9 and 10 of the second listing of a comparison have the codes 25 and 26.
-use Prim.Native.Nat.{ℕ, _+_, _-_, _*_, _%_, _/_, _^_}
+use Prim.Native.Nat.{ℕ, _+_, _-_, _*_, _/_, _%_, _^_}
 use mathlib.Core.List.{List}
 use mathlib.Core.Path.{_≡_}
 use lib.IntN.{ℤ, pos, natAbs, _+ℤ_}
 use lib.ListN.{length}
 use Rattle.answers.specs.Answers.{Answer, result, refused}
+use Rattle.rod.specs.Traversing.{traversed, answerCount, answersAfter}
 use Rattle.checks.specs.Checks.{Choice, always, never, both, Chosen, Comparison, alike, differ, declined, first, second}
 use Rattle.book.specs.Books.{Counts}
 use Rattle.score.specs.Shown.{shownAnswer}
 use Rattle.score.specs.declared.exact.Exact.{Exact}
-use Rattle.rod.specs.Traversing.{traversed, answerCount, answersAfter}
 use Rattle.compiler.specs.Compiling.{compiled, returned, leftBy}
 
 -- ---- where things stand
@@ -30,7 +30,7 @@ fromBit32 = 2 ^ 32 / fromBit5
 abbrev pub fromBit48 : ℕ
 fromBit48 = 2 ^ 48 / fromBit5
 
--- beyond every value
+-- beyond every value: 2 to the 59
 abbrev pub valueEnd : ℕ
 valueEnd = 2 ^ 64 / fromBit5
 
@@ -72,15 +72,15 @@ remainderAfter lent (result x) = x .remainder
 remainderAfter lent (refused number value) = lent
 
 -- the score's call: the number that it returned, and the one that it left
-pub record ScoreTold (bytes : List ℕ) (condition set lent returned left : ℕ) : Type 0 where
-  pub number : returned ≡ packed scoreValue (shownAnswer bytes condition set)
-  pub remainder : left ≡ remainderAfter lent (shownAnswer bytes condition set)
+pub record ScoreTold (bytes : List ℕ) (condition set lent number left : ℕ) : Type 0 where
+  pub packing : number ≡ packed scoreValue (shownAnswer bytes condition set)
+  pub leaving : left ≡ remainderAfter lent (shownAnswer bytes condition set)
 
 -- compiling: the number of records itself
 abbrev pub itself : ℕ → ℕ
 itself n = n
 
--- and compiling's call: the number that it returned, and the words that it left
+-- compiling's call: the number that it returned, and the words that it left
 pub record CompilingTold (bytes : List ℕ) (condition : ℕ) (lent : List ℕ) (number : ℕ) (left : List ℕ) : Type 0 where
   pub packing : number ≡ packed itself (returned (compiled bytes condition (length lent)))
   pub leaving : left ≡ leftBy bytes condition lent
@@ -89,7 +89,7 @@ pub record CompilingTold (bytes : List ℕ) (condition : ℕ) (lent : List ℕ) 
 unfoldable pub answersValue : ℕ → ℕ
 answersValue n = n % valueEnd
 
--- and its call: the number that it returned, and the answers that it left
+-- the traverse's call: the number that it returned, and the answers that it left
 pub record TraverseTold (words sets lent : List ℕ) (number : ℕ) (left : List ℕ) : Type 0 where
   pub packing : number ≡ packed answersValue (answerCount (traversed words sets lent))
   pub leaving : left ≡ answersAfter lent (traversed words sets lent)

@@ -10,8 +10,8 @@ ghost use Rattle.checks.specs.Checks.{chosen, comparison};
 ghost use Rattle.book.specs.Books.{checked};
 ghost use Rattle.book.specs.Meaning.{reasonNumber, declinedNumber, declinedValue};
 ghost use Rattle.score.specs.Decisions.{scoredAnswer};
-ghost use Rattle.exports.specs.Packing.{fromBit5, fromBit48, valueEnd, asOne, packed, countsValue, chosenValue, packedComparison};
-ghost use Rattle.exports.specs.Packing.{ScoreTold, CompilingTold, TraverseTold};
+ghost use Rattle.exports.specs.Packing.{fromBit5, fromBit16, fromBit32, fromBit48, valueEnd, asOne, packed};
+ghost use Rattle.exports.specs.Packing.{countsValue, ScoreTold, CompilingTold, TraverseTold, chosenValue, packedComparison};
 
 // The weight of a value in the number: it begins at bit 5, after the code.
 const FROM_BIT_5: u64 = 1 << 5;
@@ -189,6 +189,17 @@ fn accepted_choice(value: u64, judged: u32) -> u64
     accepted(value + FROM_BIT_48 * (judged - 1) as u64)
 }
 
+// Both, by the lowest set that gives yes and the lowest that gives no.
+fn accepted_both(yes: u16, no: u16, judged: u32) -> u64
+    requires { ⌜ (0 < judged) × (judged ≤ 2 ^ 16) ⌝ }
+    ensures { λ r. ⌜ r ≡ asOne 0 (2 + fromBit16 * yes + fromBit32 * no + fromBit48 * (judged - 1)) ⌝ }
+{
+    accepted_choice(
+        2 + FROM_BIT_16 * yes as u64 + FROM_BIT_32 * no as u64,
+        judged,
+    )
+}
+
 #[no_mangle]
 pub extern "C" fn cerahupo_choice(words: &[u32]) -> u64
     ensures { λ r. ⌜ r ≡ packed chosenValue (chosen (now (words .entry))) ⌝ }
@@ -197,12 +208,17 @@ pub extern "C" fn cerahupo_choice(words: &[u32]) -> u64
     match c {
         checks::ChoiceAnswer::Always(judged) => accepted_choice(0, judged),
         checks::ChoiceAnswer::Never(judged) => accepted_choice(1, judged),
-        checks::ChoiceAnswer::Both(y, n, judged) => {
-            let value = 2 + FROM_BIT_16 * y as u64 + FROM_BIT_32 * n as u64;
-            accepted_choice(value, judged)
-        }
+        checks::ChoiceAnswer::Both(yes, no, judged) => accepted_both(yes, no, judged),
         checks::ChoiceAnswer::Declined(fault) => refused_listing(fault),
     }
+}
+
+// A difference: 3 where the first listing says yes, 1 where the second does, and the lowest set where they differ.
+fn accepted_difference(which: u64, set: u16) -> u64
+    requires { ⌜ which < fromBit16 ⌝ }
+    ensures { λ r. ⌜ r ≡ asOne 0 (which + fromBit16 * set) ⌝ }
+{
+    accepted(which + FROM_BIT_16 * set as u64)
 }
 
 #[no_mangle]
@@ -212,14 +228,8 @@ pub extern "C" fn cerahupo_compare(one: &[u32], two: &[u32]) -> u64
     let c = checks::compare(one, two);
     match c {
         checks::ComparisonAnswer::Alike => accepted(0),
-        checks::ComparisonAnswer::FirstYes(set) => {
-            let value = 3 + FROM_BIT_16 * set as u64;
-            accepted(value)
-        }
-        checks::ComparisonAnswer::SecondYes(set) => {
-            let value = 1 + FROM_BIT_16 * set as u64;
-            accepted(value)
-        }
+        checks::ComparisonAnswer::FirstYes(set) => accepted_difference(3, set),
+        checks::ComparisonAnswer::SecondYes(set) => accepted_difference(1, set),
         checks::ComparisonAnswer::FirstDeclined(fault) => refused_listing(fault),
         checks::ComparisonAnswer::SecondDeclined(fault) => {
             let packed = refused_listing(fault);

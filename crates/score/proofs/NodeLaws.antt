@@ -33,8 +33,8 @@ module _ (e : Expression) (i : ℕ) (h : i < length (codesOf e)) (code : ℕ) (t
   node-code : code ≡ codeOf (nodeOf e i)
   node-code = told ∙ code-node e i
 
-  here : (n : Node MinMax ℕ) → nodeOf e i ≡ n → drop i (postfix e) ≡ n ∷ drop (i + 1) (postfix e)
-  here n f =
+  here : (node : Node MinMax ℕ) → nodeOf e i ≡ node → drop i (postfix e) ≡ node ∷ drop (i + 1) (postfix e)
+  here node f =
       let ns = postfix e in
       drop-cons ns i (joining smaller) (omega (arith, codes-nodes e)) ∙ ap₂ (λ (x : Node MinMax ℕ) (j : ℕ). x ∷ drop j ns) f (sym (add-one i))
 
@@ -51,7 +51,7 @@ module _ (e : Expression) (i : ℕ) (h : i < length (codesOf e)) (code : ℕ) (t
 
 module _ (ps : List Policy) (set : ℕ) (e : Expression) where
   abbrev worth : ℕ → ℤ
-  worth n = policyScore set (policyAt ps n)
+  worth k = policyScore set (policyAt ps k)
 
   pub at-start : (s : List Exact) → length s ≡ 16 → Underway ps set e 0 s 0
   unfolding score run
@@ -70,12 +70,12 @@ module _ (ps : List Policy) (set : ℕ) (e : Expression) where
 
     -- at a mention
     module _ (m : ℕ) (here : drop i (postfix e) ≡ value m ∷ drop (i + 1) (postfix e)) where
-      enough-behind : LeavesOne (drop (i + 1) (postfix e)) (length (u .values) + 1)
-      enough-behind = subst (λ (ns : Nodes). LeavesOne ns (length (u .values))) here (u .enough)
+      enough-after : LeavesOne (drop (i + 1) (postfix e)) (length (u .values) + 1)
+      enough-after = subst (λ (ns : Nodes). LeavesOne ns (length (u .values))) here (u .enough)
 
       pub value-room : i < length (postfix e) → length (postfix e) ≤ 31 → h < 16
       value-room l k =
-          omega (arith, height-is, u .few, length-drop (i + 1) (postfix e), few-values (drop (i + 1) (postfix e)) (length (u .values) + 1) enough-behind)
+          omega (arith, height-is, u .few, length-drop (i + 1) (postfix e), few-values (drop (i + 1) (postfix e)) (length (u .values) + 1) enough-after)
 
       pub after-value : h < 16 → (x : Exact) → Is x (worth m) → Underway ps set e (i + 1) (put s h x) (h + 1)
       unfolding run
@@ -83,7 +83,7 @@ module _ (ps : List Policy) (set : ℕ) (e : Expression) where
           record {
             values = worth m ∷ u .values;
             held = (length-set s h x ∙ u .held .0, one-more s h x (worth m) (u .values) (omega (arith, u .held .0)) k (u .held .1));
-            enough = subst (LeavesOne (drop (i + 1) (postfix e))) (add-one (length (u .values))) enough-behind;
+            enough = subst (LeavesOne (drop (i + 1) (postfix e))) (add-one (length (u .values))) enough-after;
             few = omega (arith, u .few);
             same = sym (ap (λ (ns : Nodes). run ofTwo worth ns (u .values)) here) ∙ u .same;
           }
@@ -121,7 +121,7 @@ module _ (ps : List Policy) (set : ℕ) (e : Expression) where
                 same = g;
               }
 
-    -- behind the last node
+    -- after the last node
     pub at-end : length (postfix e) ≤ i → Is (getD s 0 noScore) (score ps set e)
     unfolding run
     at-end l =

@@ -30,12 +30,12 @@ module _ (x y : Exact) (v w : ℤ) (i : Is x v) (j : Is y w) where
   fewer : ltZ (x .hundredths) (y .hundredths) ≡ true → above v + under w < above w + under v
   fewer h = omega (arith, ltZ-lt (x .hundredths) (y .hundredths) h, parts x v i, parts y w j, i .small, j .small)
 
-  pub fewer-in-order : (t : Bool) → ltZ (x .hundredths) (y .hundredths) ≡ true → true ≡ ordered t v w
+  pub fewer-in-order : (orEqual : Bool) → ltZ (x .hundredths) (y .hundredths) ≡ true → true ≡ ordered orEqual v w
   unfolding ordered
   fewer-in-order true h = sym (le-leZ v w (omega (arith, fewer h)))
   fewer-in-order false h = sym (lt-ltZ v w (fewer h))
 
-  pub fewer-not-in-order : (t : Bool) → ltZ (x .hundredths) (y .hundredths) ≡ true → false ≡ ordered t w v
+  pub fewer-not-in-order : (orEqual : Bool) → ltZ (x .hundredths) (y .hundredths) ≡ true → false ≡ ordered orEqual w v
   unfolding ordered
   fewer-not-in-order true h = sym (go (leZ w v) refl)
     where
@@ -52,7 +52,7 @@ module _ (x y : Exact) (v w : ℤ) (i : Is x v) (j : Is y w) where
         not-below : (a b : ℤ) → ltZ a b ≡ false → above b + under a ≤ above a + under b
         not-below a b e = leZ-le b a (at-most (leZ b a) (sym (ltZ-not a b) ∙ e))
           where
-            at-most : (t : Bool) → not t ≡ false → t ≡ true
+            at-most : (b : Bool) → not b ≡ false → b ≡ true
             at-most true e = refl
             at-most false e = clash refl e
 
@@ -71,35 +71,32 @@ module _ (x y : Exact) (v w : ℤ) (i : Is x v) (j : Is y w) where
         (λ e. lt-ltb (x .remainder) (y .remainder) (omega (arith, ltZ-lt v w e, level, parts x v i, parts y w j)))
 
 -- the smaller or the larger of two, by their order
-module _ (x y : Exact) (v w : ℤ) (i : Is x v) (j : Is y w) where
-  pub choice-in-order : (m : Bool) → true ≡ ordered true v w → Is (cond m y x) (ofTwo (choiceMeaning m) v w)
-  unfolding ofTwo ordered
-  choice-in-order true h = subst (λ (t : Bool). Is y (cond t w v)) h j
-  choice-in-order false h = subst (λ (t : Bool). Is x (cond t v w)) h i
+pub choice-by : (x y : Exact) (v w : ℤ) → Is x v → Is y w → (m inOrder : Bool) → inOrder ≡ ordered true v w
+    → Is (cond inOrder (cond m y x) (cond m x y)) (ofTwo (choiceMeaning m) v w)
+unfolding ofTwo ordered
+choice-by x y v w i j true true h = subst (λ (b : Bool). Is y (cond b w v)) h j
+choice-by x y v w i j false true h = subst (λ (b : Bool). Is x (cond b v w)) h i
+choice-by x y v w i j true false h = subst (λ (b : Bool). Is x (cond b w v)) h i
+choice-by x y v w i j false false h = subst (λ (b : Bool). Is y (cond b v w)) h j
 
-  pub choice-not-in-order : (m : Bool) → false ≡ ordered true v w → Is (cond m x y) (ofTwo (choiceMeaning m) v w)
-  unfolding ofTwo ordered
-  choice-not-in-order true h = subst (λ (t : Bool). Is x (cond t w v)) h i
-  choice-not-in-order false h = subst (λ (t : Bool). Is y (cond t v w)) h j
+-- ---- a product of some factors is in parts of which a unit has 100 to their number
 
--- ---- a product of k scores is in parts of which a unit has 100 to the k
+-- one factor more
+pub few-parts : (parts factors : ℕ) → parts ≤ 100 ^ factors → factors < 8 → parts * 100 ≤ 10 ^ 16
+few-parts parts factors h l = omega (arith, pow-le-pow-right {n = 100} (omega arith) {i = factors} {j = 7} (omega arith))
 
--- one step from k to k + 1
-pub few-parts : (parts k : ℕ) → parts ≤ 100 ^ k → k < 8 → parts * 100 ≤ 10 ^ 16
-few-parts parts k h l = omega (arith, pow-le-pow-right {n = 100} (omega arith) {i = k} {j = 7} (omega arith))
+pub parts-below : (parts factors : ℕ) → parts ≤ 100 ^ factors → parts * 100 ≤ 100 ^ (factors + 1)
+parts-below parts factors h = omega (arith, pow-suc 100 factors, ap (λ (n : ℕ). 100 ^ n) (add-one factors))
 
-pub parts-below : (parts k : ℕ) → parts ≤ 100 ^ k → parts * 100 ≤ 100 ^ (k + 1)
-parts-below parts k h = omega (arith, pow-suc 100 k, ap (λ (n : ℕ). 100 ^ n) (add-one k))
-
-pub parts-same : (parts k : ℕ) → k < 8 → parts * 100 * 100 ^ (8 - (k + 1)) ≡ parts * 100 ^ (8 - k)
-parts-same parts k l =
-    let e : 8 - k ≡ suc (8 - (k + 1)) = omega arith in
-    mul-assoc parts 100 (100 ^ (8 - (k + 1))) ∙ ap (λ (n : ℕ). parts * n) (sym (ap (λ (n : ℕ). 100 ^ n) e ∙ pow-succ' 100 (8 - (k + 1))))
+pub parts-same : (parts factors : ℕ) → factors < 8 → parts * 100 * 100 ^ (8 - (factors + 1)) ≡ parts * 100 ^ (8 - factors)
+parts-same parts factors l =
+    let e : 8 - factors ≡ suc (8 - (factors + 1)) = omega arith in
+    mul-assoc parts 100 (100 ^ (8 - (factors + 1))) ∙ ap (λ (n : ℕ). parts * n) (sym (ap (λ (n : ℕ). 100 ^ n) e ∙ pow-succ' 100 (8 - (factors + 1))))
 
 -- after eight there are no more to come
-pub parts-done : (parts k n : ℕ) → k ≤ 8 → 8 ≤ k → parts * 100 ^ (8 - k) ≡ n → parts ≡ n
-parts-done parts k n a b e =
-    let z : 8 - k ≡ 0 = omega arith in
+pub parts-done : (parts factors n : ℕ) → factors ≤ 8 → 8 ≤ factors → parts * 100 ^ (8 - factors) ≡ n → parts ≡ n
+parts-done parts factors n a b e =
+    let z : 8 - factors ≡ 0 = omega arith in
     sym (mul-one parts) ∙ ap (λ (m : ℕ). parts * 100 ^ m) (sym z) ∙ e
 
 -- the pair of some parts

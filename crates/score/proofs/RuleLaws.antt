@@ -23,21 +23,21 @@ use Rattle.score.specs.PolicyScores.{ruleScore, over, presentOf, withSco
 use Rattle.score.specs.declared.policies.Present.{Present}
 use Rattle.score.proofs.PolicyLaws.{applied-whole, applied-mul, mul-natural, over-small, present-more}
 
-module _ (q : Policy) (i set : ℕ) (t : Bool) (told : t ≡ present set (getD (q .rules) i noRule .signal)) where
-  pub rule-present : t ≡ true → (v : ℤ) → v ≡ getD (q .rules) i noRule .score → some v ≡ ruleScore set (getD (q .rules) i noRule)
+module _ (q : Policy) (i set : ℕ) (there : Bool) (told : there ≡ present set (getD (q .rules) i noRule .signal)) where
+  pub rule-present : there ≡ true → (v : ℤ) → v ≡ getD (q .rules) i noRule .score → some v ≡ ruleScore set (getD (q .rules) i noRule)
   unfolding ruleScore
   rule-present y v k = rw (sym told ∙ y) (ap (λ (z : ℤ). some z) k)
 
-  pub rule-absent : t ≡ false → none ≡ ruleScore set (getD (q .rules) i noRule)
+  pub rule-absent : there ≡ false → none ≡ ruleScore set (getD (q .rules) i noRule)
   unfolding ruleScore
   rule-absent n = rw (sym told ∙ n)
 
 -- ---- the present rules from rule i on
 
 module _ (set : ℕ) (rules : List Rule) where
-  pub none-behind : (q : Policy) (i : ℕ) → length rules ≤ i → _≡_ {A = Present} (record { count = 0; value = q .default }) (presentOf q (presentRules set (drop i rules)))
+  pub none-after : (q : Policy) (i : ℕ) → length rules ≤ i → _≡_ {A = Present} (record { count = 0; value = q .default }) (presentOf q (presentRules set (drop i rules)))
   unfolding presentRules presentOf
-  none-behind q i h = rw (drop-of-length-le rules {i = i} h)
+  none-after q i h = rw (drop-of-length-le rules {i = i} h)
 
   present-cons : (r : Rule) (rs : List Rule) (v : ℤ) → ruleScore set r ≡ some v → (presentRules set (r ∷ rs) ≡ r ∷ presentRules set rs) × (r .score ≡ v)
   unfolding ruleScore presentRules
@@ -50,7 +50,7 @@ module _ (set : ℕ) (rules : List Rule) where
       value x none = x
       value x (some y) = y
 
-      go : (t : Bool) → (if t then some (r .score)) ≡ some v → (cond t (r ∷ presentRules set rs) (presentRules set rs) ≡ r ∷ presentRules set rs) × (r .score ≡ v)
+      go : (b : Bool) → (if b then some (r .score)) ≡ some v → (cond b (r ∷ presentRules set rs) (presentRules set rs) ≡ r ∷ presentRules set rs) × (r .score ≡ v)
       go true k = (refl, ap (value v) k)
       go false k = out k
 
@@ -61,7 +61,7 @@ module _ (set : ℕ) (rules : List Rule) where
       out : {X : Type 0} {w : ℤ} → _≡_ {A = Option ℤ} (some w) none → X
       out k = let z : _≡_ {A = ℕ} 0 1 = cc in absurd (omega arith)
 
-      go : (t : Bool) → (if t then some (r .score)) ≡ none → cond t (r ∷ presentRules set rs) (presentRules set rs) ≡ presentRules set rs
+      go : (b : Bool) → (if b then some (r .score)) ≡ none → cond b (r ∷ presentRules set rs) (presentRules set rs) ≡ presentRules set rs
       go true k = out k
       go false k = refl
 

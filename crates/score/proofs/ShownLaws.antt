@@ -60,15 +60,15 @@ by-order false true c d f g h = g refl
 by-order false false c d f g h = h refl refl
 
 -- one of two pairs comes first by its hundredths; where they are as many, by the remainders
-module _ (x y : Exact) (v w : ℤ) (i : Is x v) (j : Is y w) (t c : Bool) where
-  pairs-ordered : (ltZ (x .hundredths) (y .hundredths) ≡ false → ltZ (y .hundredths) (x .hundredths) ≡ false → c ≡ ordered t v w)
-      → (ltZ (x .hundredths) (y .hundredths) || equal (x .hundredths) (y .hundredths) && c) ≡ ordered t v w
+module _ (x y : Exact) (v w : ℤ) (i : Is x v) (j : Is y w) (orEqual c : Bool) where
+  pairs-ordered : (ltZ (x .hundredths) (y .hundredths) ≡ false → ltZ (y .hundredths) (x .hundredths) ≡ false → c ≡ ordered orEqual v w)
+      → (ltZ (x .hundredths) (y .hundredths) || equal (x .hundredths) (y .hundredths) && c) ≡ ordered orEqual v w
   unfolding equal
   pairs-ordered level =
       rw (not-ltZ (x .hundredths) (y .hundredths), not-ltZ (y .hundredths) (x .hundredths))
-      (by-order (ltZ (x .hundredths) (y .hundredths)) (ltZ (y .hundredths) (x .hundredths)) c (ordered t v w)
-      (fewer-in-order x y v w i j t)
-      (fewer-not-in-order y x w v j i t)
+      (by-order (ltZ (x .hundredths) (y .hundredths)) (ltZ (y .hundredths) (x .hundredths)) c (ordered orEqual v w)
+      (fewer-in-order x y v w i j orEqual)
+      (fewer-not-in-order y x w v j i orEqual)
       level)
 
 at-most-shown : (v w : ℤ) → atMost (shown v) (shown w) ≡ leZ v w
@@ -99,7 +99,7 @@ meets-shown AtMost t v = not-ltZ v (scaled t) ∙ ap not (above-shown t v)
 
 -- ---- min and max
 
-shown-either : (t : Bool) (v w : ℤ) → shown (cond t v w) ≡ cond t (shown v) (shown w)
+shown-either : (b : Bool) (v w : ℤ) → shown (cond b v w) ≡ cond b (shown v) (shown w)
 shown-either true v w = refl
 shown-either false v w = refl
 
@@ -108,8 +108,8 @@ unfolding ofTwo ofPairs
 shown-two smaller v w = rw (at-most-shown v w) (shown-either (leZ v w) v w)
 shown-two larger v w = rw (at-most-shown v w) (shown-either (leZ v w) w v)
 
-pub shown-expression : (ps : List Policy) (set : ℕ) (e : Expression) → shown (score ps set e) ≡ treeValue ofPairs (λ n. shown (policyScore set (policyAt ps n))) e
+pub shown-expression : (ps : List Policy) (set : ℕ) (e : Expression) → shown (score ps set e) ≡ treeValue ofPairs (λ k. shown (policyScore set (policyAt ps k))) e
 unfolding score treeValue
-shown-expression ps set (leaf n) = refl
+shown-expression ps set (leaf k) = refl
 shown-expression ps set (join m a b) =
     shown-two m (score ps set a) (score ps set b) ∙ ap₂ (ofPairs m) (shown-expression ps set a) (shown-expression ps set b)

@@ -24,7 +24,7 @@ module _ (bytes : List ℕ) (number set : ℕ) where
     where
       go : (a : Answer (Book × Condition)) → onResult a (λ (b, c). result (decision (b .policies) c set))
           ≡ onResult a (λ (b, c). onResult (onResult a (λ (b, c). result (shown (score (b .policies) set (c .expression))))) (λ x. result (meetsShown (c .sense) (c .threshold) x)))
-      go (result (b, c)) = ap (λ (t : Bool). result t) (meets-shown (c .sense) (c .threshold) (score (b .policies) set (c .expression)))
+      go (result (b, c)) = ap (λ (x : Bool). result x) (meets-shown (c .sense) (c .threshold) (score (b .policies) set (c .expression)))
       go (refused k v) = refl
 
   in-range : (x : Exact) → shownAnswer bytes number set ≡ result x → InHundredths (x .hundredths)

@@ -34,4 +34,4 @@ pub record Underway (ps : List Policy) (set : ℕ) (e : Expression) (i : ℕ) (c
   pub held : Holds cells height values
   pub enough : LeavesOne (drop i (postfix e)) (length values)
   pub few : length values ≤ i
-  pub same : run ofTwo (λ n. policyScore set (policyAt ps n)) (drop i (postfix e)) values ≡ score ps set e ∷ []
+  pub same : run ofTwo (λ k. policyScore set (policyAt ps k)) (drop i (postfix e)) values ≡ score ps set e ∷ []

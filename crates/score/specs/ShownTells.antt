@@ -24,7 +24,7 @@ pub record ShownTells : Type 0 where
   pub only : (x : Exact) → x .remainder < 10 ^ 14 → x ≡ shown (scaled (x .hundredths) +ℤ pos (x .remainder))
   -- min and max compare these pairs exactly, however deep they stand in E
   pub pairs : (ps : List Policy) (set : ℕ) (e : Expression)
-      → shown (score ps set e) ≡ treeValue ofPairs (λ n. shown (policyScore set (policyAt ps n))) e
+      → shown (score ps set e) ≡ treeValue ofPairs (λ k. shown (policyScore set (policyAt ps k))) e
   -- T is less than E exactly when the hundredths exceed T, or equal it with a remainder above zero
   pub above : (t v : ℤ) → ltZ (scaled t) v ≡ exceeds t (shown v)
   -- so the decision is what the shown score tells, in both senses: they never contradict each other, and are refused alike

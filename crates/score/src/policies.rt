@@ -13,7 +13,7 @@ ghost use Rattle.score.specs.Pairs.{Is};
 ghost use Rattle.score.specs.PolicyScores.{ForPolicy, ruleScore, scoredMeaning, presentOf, withScore};
 
 // What a rule adds on a signal set.
-pub enum Scored {
+enum Scored {
     Present(i64),
     Absent,
 }
@@ -21,7 +21,8 @@ pub enum Scored {
 // Rule i of policy k on the set.
 fn rule_score(cells: &book::Cells, k: usize, i: usize, set: u16) -> Scored
     requires { ⌜ ((h : PolicyKept (now cells) k) × (i < length (h .policy .rules))) ⌝ }
-    ensures { λ r. ⌜ ForPolicy (now (cells .entry)) k (λ p. scoredMeaning r ≡ ruleScore set (getD (p .rules) i noRule)) ⌝ }
+    ensures { λ r. ⌜ ForPolicy (now (cells .entry)) k
+        (λ p. scoredMeaning r ≡ ruleScore set (getD (p .rules) i noRule)) ⌝ }
 {
     let signal = book::signal_at(cells, k, i);
     let score = book::score_at(cells, k, i);
@@ -34,9 +35,9 @@ fn rule_score(cells: &book::Cells, k: usize, i: usize, set: u16) -> Scored
 }
 
 // The rules present so far: how many, and the operator over their scores; the default while there are none.
-pub struct Present {
-    pub count: usize,
-    pub value: i64,
+struct Present {
+    count: usize,
+    value: i64,
 }
 
 // One present rule more.

@@ -2,9 +2,9 @@
 use mathlib.Core.Path.{_≡_, ap, subst, _∙_}
 use borrow.Author.Needs.{needs}
 use denote.Ref.{now}
+use Rattle.answers.proofs.Results.{on-equal}
 use Rattle.book.specs.Asked.{AskedAs}
 use Rattle.book.specs.declared.Asked.{Asked}
-use Rattle.book.proofs.AskedLaws.{on-asked}
 use Rattle.compiler.specs.Compiling.{compiled, returned, lentAfter}
 use Rattle.compiler.proofs.compile.Statement.{statement}
 use Rattle.compiler.proofs.compile.Tie as tie
@@ -35,7 +35,7 @@ returns c =
     let m = c .before .before in
     let a = m .before .before .before .before in
     let f = arm (a .before .before) _ (a .asked .given .1) in
-    let same = on-asked _ (f .told) in
+    let same = on-equal _ (f .told) in
     record {
       returning = m .compile-condition .ensures .0 (f .kept) ∙ ap returned same;
       leaving = m .compile-condition .ensures .1 (f .kept) ∙ ap (lentAfter _) same;
@@ -45,7 +45,7 @@ returns-2 : tie.Need-returns-2
 unfolding compiled returned lentAfter
 returns-2 c =
     let a = c .before in
-    let same = on-asked _ (arm (a .before .before) _ (a .asked2 .given .1)) in
+    let same = on-equal _ (arm (a .before .before) _ (a .asked2 .given .1)) in
     record { returning = ap returned same; leaving = ap (lentAfter _) same }
 
 pub compile-spec : {M : Type 1} → statement M

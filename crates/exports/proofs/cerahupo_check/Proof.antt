@@ -1,11 +1,9 @@
 -- `exports::cerahupo_check`: what the check tells, packed.
 use Prim.Native.Nat.{_≤_}
-use mathlib.Core.Path.{_≡_, sym, ap, _∙_}
+use mathlib.Core.Path.{ap, _∙_}
 use native.Mathlib.Omega.{arith}
-use denote.Ref.{now}
-use Rattle.book.specs.Books.{checked}
+use Rattle.answers.proofs.Results.{in-arm}
 use Rattle.book.specs.Meaning.{checkedMeaning}
-use Rattle.book.specs.declared.Checked.{Checked}
 use Rattle.exports.specs.Packing.{packed, countsValue}
 use Rattle.exports.proofs.Refusals.{in-table}
 use Rattle.exports.proofs.BookRefusals.{checking}
@@ -20,12 +18,8 @@ check-requires c κs = search needs
 enum-known-c : tie.Need-enum-known-c
 enum-known-c c = search needs
 
--- the answer in an arm is the definition's
-answer : (c : tie.After-check) (v : Checked) → c .check .result ≡ v → checkedMeaning v ≡ checked (now (c .before .before .args .bytes))
-answer c v e = sym (ap checkedMeaning e) ∙ c .check .ensures
-
 small : (c : tie.After-c) → (c .c .given .0 .0 ≤ 16) × (c .c .given .0 .1 .0 ≤ 8)
-small c = counts-small _ _ (answer (c .before .before) _ (c .c .given .1))
+small c = counts-small _ _ (in-arm checkedMeaning (c .before .before .check .ensures) (c .c .given .1))
 
 mul-value : tie.Need-mul-value
 mul-value c = let h = small (c .before) in omega arith
@@ -40,15 +34,15 @@ enum-known-c-2 : tie.Need-enum-known-c-2
 enum-known-c-2 c = search needs
 
 refused-book-requires : tie.Need-refused-book-requires
-refused-book-requires c κs = omega (arith, in-table (checking _) (answer (c .before .before .before) _ (c .before .c2 .given .1)))
+refused-book-requires c κs = omega (arith, in-table (checking _) (in-arm checkedMeaning (c .before .before .before .check .ensures) (c .before .c2 .given .1)))
 
 returns : tie.Need-returns
 unfolding packed countsValue
-returns c = let a = c .before .before in c .accepted .ensures ∙ ap (packed countsValue) (answer (a .before .before) _ (a .c .given .1))
+returns c = let a = c .before .before in c .accepted .ensures ∙ ap (packed countsValue) (in-arm checkedMeaning (a .before .before .check .ensures) (a .c .given .1))
 
 returns-2 : tie.Need-returns-2
 unfolding packed
-returns-2 c = let a = c .before .before in c .refused-book .ensures ∙ ap (packed countsValue) (answer (a .before .before) _ (a .c2 .given .1))
+returns-2 c = let a = c .before .before in c .refused-book .ensures ∙ ap (packed countsValue) (in-arm checkedMeaning (a .before .before .check .ensures) (a .c2 .given .1))
 
 pub cerahupo-check-spec : {M : Type 1} → statement M
 cerahupo-check-spec =

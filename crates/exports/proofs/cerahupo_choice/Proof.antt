@@ -1,11 +1,9 @@
 -- `exports::cerahupo_choice`: the choice check's answer, packed.
-use mathlib.Core.Path.{_≡_, sym, ap, _∙_}
+use mathlib.Core.Path.{ap, _∙_}
 use native.Mathlib.Omega.{arith}
-use denote.Ref.{now}
 use borrow.Author.Needs.{needs}
-use Rattle.checks.specs.Checks.{chosen}
+use Rattle.answers.proofs.Results.{in-arm}
 use Rattle.checks.specs.Meaning.{choiceMeaning}
-use Rattle.checks.specs.declared.ChoiceAnswer.{ChoiceAnswer}
 use Rattle.exports.specs.Packing.{packed, choiceValue, chosenValue}
 use Rattle.exports.proofs.Refusals.{in-table}
 use Rattle.exports.proofs.ListingRefusals.{choosing}
@@ -16,17 +14,13 @@ use Rattle.exports.proofs.cerahupo_choice.Tie as tie
 choice-requires : tie.Need-choice-requires
 choice-requires c κs = search needs
 
--- the answer in an arm is the definition's
-answer : (c : tie.After-choice) (v : ChoiceAnswer) → c .choice .result ≡ v → choiceMeaning v ≡ chosen (now (c .before .before .args .words))
-answer c v e = sym (ap choiceMeaning e) ∙ c .choice .ensures
-
 enum-known-c : tie.Need-enum-known-c
 enum-known-c c = search needs
 
 accepted-choice-requires : tie.Need-accepted-choice-requires
 accepted-choice-requires c κs =
     let a = c .before in
-    let f = chosen-fits _ _ (answer (a .before .before) _ (a .c .given .1)) in
+    let f = chosen-fits _ _ (in-arm choiceMeaning (a .before .before .choice .ensures) (a .c .given .1)) in
     (omega arith, f .some, f .few)
 
 enum-known-c-2 : tie.Need-enum-known-c-2
@@ -35,57 +29,39 @@ enum-known-c-2 c = search needs
 accepted-choice-requires-2 : tie.Need-accepted-choice-requires-2
 accepted-choice-requires-2 c κs =
     let a = c .before in
-    let f = chosen-fits _ _ (answer (a .before .before) _ (a .c2 .given .1)) in
+    let f = chosen-fits _ _ (in-arm choiceMeaning (a .before .before .choice .ensures) (a .c2 .given .1)) in
     (omega arith, f .some, f .few)
 
 enum-known-c-3 : tie.Need-enum-known-c-3
 enum-known-c-3 c = search needs
 
-cast-value : tie.Need-cast-value
-cast-value c = search needs
-
-mul-value : tie.Need-mul-value
-mul-value c = search needs
-
-add-value : tie.Need-add-value
-add-value c = search needs
-
-cast-value-2 : tie.Need-cast-value-2
-cast-value-2 c = search needs
-
-mul-value-2 : tie.Need-mul-value-2
-mul-value-2 c = search needs
-
-add-value-2 : tie.Need-add-value-2
-add-value-2 c = search needs
-
-accepted-choice-requires-3 : tie.Need-accepted-choice-requires-3
-accepted-choice-requires-3 c κs =
+accepted-both-requires : tie.Need-accepted-both-requires
+accepted-both-requires c κs =
     let a = c .before in
-    let f = chosen-fits _ _ (answer (a .before .before) _ (a .c3 .given .1)) in
-    (omega (arith, f .sets .0, f .sets .1), f .some, f .few)
+    let f = chosen-fits _ _ (in-arm choiceMeaning (a .before .before .choice .ensures) (a .c3 .given .1)) in
+    (f .some, f .few)
 
 enum-known-c-4 : tie.Need-enum-known-c-4
 enum-known-c-4 c = search needs
 
 refused-listing-requires : tie.Need-refused-listing-requires
-refused-listing-requires c κs = let d = c .before .before .before in omega (arith, d .before .before .good, in-table (choosing _) (answer d _ (c .before .c4 .given .1)))
+refused-listing-requires c κs = let d = c .before .before .before in omega (arith, d .before .before .good, in-table (choosing _) (in-arm choiceMeaning (d .choice .ensures) (c .before .c4 .given .1)))
 
 returns : tie.Need-returns
 unfolding packed choiceValue chosenValue
-returns c = let a = c .before .before in c .accepted-choice .ensures ∙ ap (packed chosenValue) (answer (a .before .before) _ (a .c .given .1))
+returns c = let a = c .before .before in c .accepted-choice .ensures ∙ ap (packed chosenValue) (in-arm choiceMeaning (a .before .before .choice .ensures) (a .c .given .1))
 
 returns-2 : tie.Need-returns-2
 unfolding packed choiceValue chosenValue
-returns-2 c = let a = c .before .before in c .accepted-choice2 .ensures ∙ ap (packed chosenValue) (answer (a .before .before) _ (a .c2 .given .1))
+returns-2 c = let a = c .before .before in c .accepted-choice2 .ensures ∙ ap (packed chosenValue) (in-arm choiceMeaning (a .before .before .choice .ensures) (a .c2 .given .1))
 
 returns-3 : tie.Need-returns-3
 unfolding packed choiceValue chosenValue
-returns-3 c = let a = c .before .before in c .accepted-choice3 .ensures ∙ ap (packed chosenValue) (answer (a .before .before) _ (a .c3 .given .1))
+returns-3 c = let a = c .before .before in c .accepted-both .ensures ∙ ap (packed chosenValue) (in-arm choiceMeaning (a .before .before .choice .ensures) (a .c3 .given .1))
 
 returns-4 : tie.Need-returns-4
 unfolding packed
-returns-4 c = let a = c .before .before in c .refused-listing .ensures ∙ ap (packed chosenValue) (answer (a .before .before) _ (a .c4 .given .1))
+returns-4 c = let a = c .before .before in c .refused-listing .ensures ∙ ap (packed chosenValue) (in-arm choiceMeaning (a .before .before .choice .ensures) (a .c4 .given .1))
 
 pub cerahupo-choice-spec : {M : Type 1} → statement M
 cerahupo-choice-spec =
@@ -97,13 +73,7 @@ cerahupo-choice-spec =
     enum-known-c-2
     accepted-choice-requires-2
     enum-known-c-3
-    cast-value
-    mul-value
-    add-value
-    cast-value-2
-    mul-value-2
-    add-value-2
-    accepted-choice-requires-3
+    accepted-both-requires
     enum-known-c-4
     refused-listing-requires
     returns

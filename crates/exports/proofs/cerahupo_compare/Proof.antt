@@ -1,11 +1,9 @@
 -- `exports::cerahupo_compare`: the comparison's answer, packed.
 use Prim.Native.Nat.{ℕ, _+_}
-use mathlib.Core.Path.{_≡_, sym, ap, _∙_}
+use mathlib.Core.Path.{_≡_, ap, _∙_}
 use native.Mathlib.Omega.{arith}
-use denote.Ref.{now}
-use Rattle.checks.specs.Checks.{comparison}
+use Rattle.answers.proofs.Results.{in-arm}
 use Rattle.checks.specs.Meaning.{comparisonMeaning}
-use Rattle.checks.specs.declared.ComparisonAnswer.{ComparisonAnswer}
 use Rattle.exports.specs.Packing.{secondHigher, asOne, ofSecond, packedComparison}
 use Rattle.exports.proofs.ListingRefusals.{first-in-table, second-in-table}
 use borrow.Author.Needs.{needs}
@@ -24,75 +22,52 @@ accepted-requires c κs = search needs
 enum-known-c : tie.Need-enum-known-c
 enum-known-c c = search needs
 
-cast-value : tie.Need-cast-value
-cast-value c = search needs
-
-mul-value : tie.Need-mul-value
-mul-value c = search needs
-
-add-value : tie.Need-add-value
-add-value c = search needs
-
-accepted-requires-2 : tie.Need-accepted-requires-2
-accepted-requires-2 c κs = search needs
+accepted-difference-requires : tie.Need-accepted-difference-requires
+accepted-difference-requires c κs = search needs
 
 enum-known-c-2 : tie.Need-enum-known-c-2
 enum-known-c-2 c = search needs
 
-cast-value-2 : tie.Need-cast-value-2
-cast-value-2 c = search needs
-
-mul-value-2 : tie.Need-mul-value-2
-mul-value-2 c = search needs
-
-add-value-2 : tie.Need-add-value-2
-add-value-2 c = search needs
-
-accepted-requires-3 : tie.Need-accepted-requires-3
-accepted-requires-3 c κs = search needs
+accepted-difference-requires-2 : tie.Need-accepted-difference-requires-2
+accepted-difference-requires-2 c κs = search needs
 
 enum-known-c-3 : tie.Need-enum-known-c-3
 enum-known-c-3 c = search needs
-
--- the answer in an arm is the definition's
-answer : (c : tie.After-compare) (v : ComparisonAnswer) → c .compare .result ≡ v → let s = c .before .before .before in
-    comparisonMeaning v ≡ comparison (now (s .args .one)) (now (s .args .two))
-answer c v e = sym (ap comparisonMeaning e) ∙ c .compare .ensures
 
 second : (r number value : ℕ) → r ≡ asOne number value → r + secondHigher ≡ asOne (ofSecond number) value
 second r number value e = omega arith
 
 refused-listing-requires : tie.Need-refused-listing-requires
-refused-listing-requires c κs = let d = c .before .before .before in omega (arith, d .before .before .before .good, first-in-table _ _ (answer d _ (c .before .c3 .given .1)))
+refused-listing-requires c κs = let d = c .before .before .before in omega (arith, d .before .before .before .good, first-in-table _ _ (in-arm comparisonMeaning (d .compare .ensures) (c .before .c3 .given .1)))
 
 enum-known-c-4 : tie.Need-enum-known-c-4
 enum-known-c-4 c = search needs
 
 refused-listing-requires-2 : tie.Need-refused-listing-requires-2
-refused-listing-requires-2 c κs = let d = c .before .before .before in omega (arith, d .before .before .before .good, second-in-table _ _ (answer d _ (c .before .c4 .given .1)))
+refused-listing-requires-2 c κs = let d = c .before .before .before in omega (arith, d .before .before .before .good, second-in-table _ _ (in-arm comparisonMeaning (d .compare .ensures) (c .before .c4 .given .1)))
 
 add-result : tie.Need-add-result
-add-result c = let d = c .before .before .before .before in omega (arith, c .refused-listing2 .ensures, d .before .before .before .good, second-in-table _ _ (answer d _ (c .before .before .c4 .given .1)))
+add-result c = let d = c .before .before .before .before in omega (arith, c .refused-listing2 .ensures, d .before .before .before .good, second-in-table _ _ (in-arm comparisonMeaning (d .compare .ensures) (c .before .before .c4 .given .1)))
 
 returns : tie.Need-returns
 unfolding packedComparison
-returns c = let a = c .before in c .accepted .ensures ∙ ap packedComparison (answer (a .before .before) _ (a .enum-told .given .1))
+returns c = let a = c .before in c .accepted .ensures ∙ ap packedComparison (in-arm comparisonMeaning (a .before .before .compare .ensures) (a .enum-told .given .1))
 
 returns-2 : tie.Need-returns-2
 unfolding packedComparison
-returns-2 c = let a = c .before .before in c .accepted2 .ensures ∙ ap packedComparison (answer (a .before .before) _ (a .c .given .1))
+returns-2 c = let a = c .before .before in c .accepted-difference .ensures ∙ ap packedComparison (in-arm comparisonMeaning (a .before .before .compare .ensures) (a .c .given .1))
 
 returns-3 : tie.Need-returns-3
 unfolding packedComparison
-returns-3 c = let a = c .before .before in c .accepted3 .ensures ∙ ap packedComparison (answer (a .before .before) _ (a .c2 .given .1))
+returns-3 c = let a = c .before .before in c .accepted-difference2 .ensures ∙ ap packedComparison (in-arm comparisonMeaning (a .before .before .compare .ensures) (a .c2 .given .1))
 
 returns-4 : tie.Need-returns-4
 unfolding packedComparison
-returns-4 c = let a = c .before .before in c .refused-listing .ensures ∙ ap packedComparison (answer (a .before .before) _ (a .c3 .given .1))
+returns-4 c = let a = c .before .before in c .refused-listing .ensures ∙ ap packedComparison (in-arm comparisonMeaning (a .before .before .compare .ensures) (a .c3 .given .1))
 
 returns-5 : tie.Need-returns-5
 unfolding packedComparison
-returns-5 c = let a = c .before .before in second _ _ _ (c .refused-listing2 .ensures) ∙ ap packedComparison (answer (a .before .before) _ (a .c4 .given .1))
+returns-5 c = let a = c .before .before in second _ _ _ (c .refused-listing2 .ensures) ∙ ap packedComparison (in-arm comparisonMeaning (a .before .before .compare .ensures) (a .c4 .given .1))
 
 pub cerahupo-compare-spec : {M : Type 1} → statement M
 cerahupo-compare-spec =
@@ -102,15 +77,9 @@ cerahupo-compare-spec =
     enum-told
     accepted-requires
     enum-known-c
-    cast-value
-    mul-value
-    add-value
-    accepted-requires-2
+    accepted-difference-requires
     enum-known-c-2
-    cast-value-2
-    mul-value-2
-    add-value-2
-    accepted-requires-3
+    accepted-difference-requires-2
     enum-known-c-3
     refused-listing-requires
     enum-known-c-4

@@ -1,11 +1,8 @@
 -- `exports::cerahupo_compile`: what compiling returns, packed, and the words as it left them.
-use mathlib.Core.Path.{_≡_, sym, ap, _∙_}
+use mathlib.Core.Path.{ap, _∙_}
 use native.Mathlib.Omega.{arith}
-use denote.Ref.{now}
-use lib.ListN.{length}
-use Rattle.compiler.specs.Compiling.{compiled, returned}
+use Rattle.answers.proofs.Results.{in-arm}
 use Rattle.compiler.specs.Meaning.{compiledMeaning}
-use Rattle.compiler.specs.declared.Compiled.{Compiled}
 use Rattle.compiler.proofs.CompiledLaws.{returned-from}
 use Rattle.exports.specs.Packing.{packed, itself}
 use Rattle.exports.proofs.Refusals.{in-table}
@@ -20,11 +17,6 @@ compile-requires c κs = search needs
 enum-known-c : tie.Need-enum-known-c
 enum-known-c c = search needs
 
--- the answer in an arm is the definition's
-answer : (c : tie.After-compile) (v : Compiled) → c .compile .result ≡ v → let s = c .before .before .before .before in
-    compiledMeaning v ≡ returned (compiled (now (s .args .bytes)) (s .args .condition) (length (now (s .args .words))))
-answer c v e = sym (ap compiledMeaning e) ∙ c .compile .ensures .returning
-
 accepted-requires : tie.Need-accepted-requires
 accepted-requires c κs =
     let a = c .before in
@@ -37,7 +29,7 @@ enum-known-c-2 c = search needs
 declined-requires : tie.Need-declined-requires
 declined-requires c κs =
     let a = c .before in
-    omega (arith, in-table (compiling _ _ _) (answer (a .before .before .before .before) _ (a .c2 .given .1)))
+    omega (arith, in-table (compiling _ _ _) (in-arm compiledMeaning (a .before .before .before .before .compile .ensures .returning) (a .c2 .given .1)))
 
 enum-told : tie.Need-enum-told
 enum-told c = search needs
@@ -53,7 +45,7 @@ unfolding packed
 returns c =
     let a = c .before .before in
     let x = a .before .before .before .before in
-    record { packing = c .accepted .ensures ∙ ap (packed itself) (answer x _ (a .c .given .1)); leaving = x .compile .ensures .leaving }
+    record { packing = c .accepted .ensures ∙ ap (packed itself) (in-arm compiledMeaning (x .compile .ensures .returning) (a .c .given .1)); leaving = x .compile .ensures .leaving }
 
 same-length-2 : tie.Need-same-length-2
 same-length-2 c = search needs
@@ -63,7 +55,7 @@ unfolding packed
 returns-2 c =
     let a = c .before .before in
     let x = a .before .before .before .before in
-    record { packing = c .declined .ensures ∙ ap (packed itself) (answer x _ (a .c2 .given .1)); leaving = x .compile .ensures .leaving }
+    record { packing = c .declined .ensures ∙ ap (packed itself) (in-arm compiledMeaning (x .compile .ensures .returning) (a .c2 .given .1)); leaving = x .compile .ensures .leaving }
 
 same-length-3 : tie.Need-same-length-3
 same-length-3 c = search needs
@@ -73,7 +65,7 @@ unfolding packed
 returns-3 c =
     let a = c .before in
     let x = a .before .before .before .before in
-    record { packing = c .refused .ensures ∙ ap (packed itself) (answer x _ (a .enum-told .given .1)); leaving = x .compile .ensures .leaving }
+    record { packing = c .refused .ensures ∙ ap (packed itself) (in-arm compiledMeaning (x .compile .ensures .returning) (a .enum-told .given .1)); leaving = x .compile .ensures .leaving }
 
 pub cerahupo-compile-spec : {M : Type 1} → statement M
 cerahupo-compile-spec =

@@ -1,12 +1,10 @@
 -- `exports::cerahupo_decide`: the logger's answer, packed.
-use mathlib.Core.Path.{_≡_, sym, ap, _∙_}
+use mathlib.Core.Path.{ap, _∙_}
 use native.Mathlib.Omega.{arith}
 use borrow.Author.Needs.{needs}
-use denote.Ref.{now}
+use Rattle.answers.proofs.Results.{in-arm}
 use Rattle.layout.specs.Records.{bit}
-use Rattle.score.specs.Decisions.{scoredAnswer}
 use Rattle.score.specs.Meaning.{scoreMeaning}
-use Rattle.score.specs.declared.Decision.{Decision}
 use Rattle.exports.specs.Packing.{packed}
 use Rattle.exports.proofs.Refusals.{in-table}
 use Rattle.exports.proofs.BookRefusals.{deciding}
@@ -31,25 +29,20 @@ accepted-requires-2 c κs = search needs
 enum-known-d : tie.Need-enum-known-d
 enum-known-d c = search needs
 
--- the answer in an arm is the definition's
-answer : (c : tie.After-decide) (v : Decision) → c .decide .result ≡ v → let s = c .before .before in
-    scoreMeaning v ≡ scoredAnswer (now (s .args .bytes)) (s .args .condition) (s .args .set)
-answer c v e = sym (ap scoreMeaning e) ∙ c .decide .ensures
-
 declined-requires : tie.Need-declined-requires
-declined-requires c κs = omega (arith, in-table (deciding _ _ _) (answer (c .before .before .before) _ (c .before .d .given .1)))
+declined-requires c κs = omega (arith, in-table (deciding _ _ _) (in-arm scoreMeaning (c .before .before .before .decide .ensures) (c .before .d .given .1)))
 
 returns : tie.Need-returns
 unfolding packed bit
-returns c = let a = c .before in c .accepted .ensures ∙ ap (packed bit) (answer (a .before .before) _ (a .enum-told .given .1))
+returns c = let a = c .before in c .accepted .ensures ∙ ap (packed bit) (in-arm scoreMeaning (a .before .before .decide .ensures) (a .enum-told .given .1))
 
 returns-2 : tie.Need-returns-2
 unfolding packed bit
-returns-2 c = let a = c .before in c .accepted2 .ensures ∙ ap (packed bit) (answer (a .before .before) _ (a .enum-told2 .given .1))
+returns-2 c = let a = c .before in c .accepted2 .ensures ∙ ap (packed bit) (in-arm scoreMeaning (a .before .before .decide .ensures) (a .enum-told2 .given .1))
 
 returns-3 : tie.Need-returns-3
 unfolding packed
-returns-3 c = let a = c .before .before in c .declined .ensures ∙ ap (packed bit) (answer (a .before .before) _ (a .d .given .1))
+returns-3 c = let a = c .before .before in c .declined .ensures ∙ ap (packed bit) (in-arm scoreMeaning (a .before .before .decide .ensures) (a .d .given .1))
 
 pub cerahupo-decide-spec : {M : Type 1} → statement M
 cerahupo-decide-spec =

@@ -1,11 +1,9 @@
 -- `exports::cerahupo_read`: the rod's answer, packed.
-use mathlib.Core.Path.{_≡_, sym, ap, _∙_}
+use mathlib.Core.Path.{ap, _∙_}
 use native.Mathlib.Omega.{arith}
-use denote.Ref.{now}
+use Rattle.answers.proofs.Results.{in-arm}
 use Rattle.layout.specs.Records.{bit}
-use Rattle.rod.specs.Reading.{rodAnswer}
 use Rattle.rod.specs.Meaning.{rodMeaning}
-use Rattle.rod.specs.declared.Decision.{Decision}
 use Rattle.exports.specs.Packing.{packed}
 use Rattle.exports.proofs.Refusals.{in-table}
 use Rattle.exports.proofs.ListingRefusals.{rod-reading}
@@ -31,24 +29,20 @@ accepted-requires-2 c κs = search needs
 enum-known-d : tie.Need-enum-known-d
 enum-known-d c = search needs
 
--- the answer in an arm is the definition's
-answer : (c : tie.After-decide) (v : Decision) → c .decide .result ≡ v → let s = c .before .before in rodMeaning v ≡ rodAnswer (now (s .args .words)) (s .args .set)
-answer c v e = sym (ap rodMeaning e) ∙ c .decide .ensures
-
 refused-listing-requires : tie.Need-refused-listing-requires
-refused-listing-requires c κs = let d = c .before .before .before in omega (arith, d .before .before .good, in-table (rod-reading _ _) (answer d _ (c .before .d .given .1)))
+refused-listing-requires c κs = let d = c .before .before .before in omega (arith, d .before .before .good, in-table (rod-reading _ _) (in-arm rodMeaning (d .decide .ensures) (c .before .d .given .1)))
 
 returns : tie.Need-returns
 unfolding packed bit
-returns c = let a = c .before in c .accepted .ensures ∙ ap (packed bit) (answer (a .before .before) _ (a .enum-told .given .1))
+returns c = let a = c .before in c .accepted .ensures ∙ ap (packed bit) (in-arm rodMeaning (a .before .before .decide .ensures) (a .enum-told .given .1))
 
 returns-2 : tie.Need-returns-2
 unfolding packed bit
-returns-2 c = let a = c .before in c .accepted2 .ensures ∙ ap (packed bit) (answer (a .before .before) _ (a .enum-told2 .given .1))
+returns-2 c = let a = c .before in c .accepted2 .ensures ∙ ap (packed bit) (in-arm rodMeaning (a .before .before .decide .ensures) (a .enum-told2 .given .1))
 
 returns-3 : tie.Need-returns-3
 unfolding packed
-returns-3 c = let a = c .before .before in c .refused-listing .ensures ∙ ap (packed bit) (answer (a .before .before) _ (a .d .given .1))
+returns-3 c = let a = c .before .before in c .refused-listing .ensures ∙ ap (packed bit) (in-arm rodMeaning (a .before .before .decide .ensures) (a .d .given .1))
 
 pub cerahupo-read-spec : {M : Type 1} → statement M
 cerahupo-read-spec =

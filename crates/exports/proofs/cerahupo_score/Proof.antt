@@ -8,9 +8,8 @@ use lib.IntN.{ℤ, pos, natAbs, _+ℤ_}
 use mir.Syntax.{w64}
 use mir.Val.{SFits, toZ, ofZ}
 use Rattle.arith.proofs.Signed.{both-fit, both-back, natural-fits}
-use Rattle.score.specs.Shown.{shownAnswer}
+use Rattle.answers.proofs.Results.{in-arm}
 use Rattle.score.specs.Meaning.{shownMeaning}
-use Rattle.score.specs.declared.Evaluation.{Evaluation}
 use Rattle.exports.specs.Packing.{belowZero, asOne, packed, scoreValue, remainderAfter}
 use Rattle.exports.proofs.Refusals.{in-table}
 use Rattle.exports.proofs.BookRefusals.{scoring}
@@ -24,11 +23,6 @@ evaluate-requires c κs = search needs
 enum-known-evaluation : tie.Need-enum-known-evaluation
 enum-known-evaluation c = search needs
 
--- the answer in an arm is the definition's
-answer : (c : tie.After-evaluate) (v : Evaluation) → c .evaluate .result ≡ v → let s = c .before .before in
-    shownMeaning v ≡ shownAnswer (now (s .args .bytes)) (s .args .condition) (s .args .set)
-answer c v e = sym (ap shownMeaning e) ∙ c .evaluate .ensures
-
 -- the hundredths, counted from the lowest
 module _ (c : tie.After-struct-told) where
   abbrev hundredths : ℤ
@@ -41,7 +35,7 @@ module _ (c : tie.After-struct-told) where
   counted =
       let e = c .before .before .before in
       let s = e .before .before .before .before in
-      hundredths-natural (now (s .args .bytes)) (s .args .condition) (s .args .set) _ (sym (answer (e .before .before) _ (e .evaluation .given .1)))
+      hundredths-natural (now (s .args .bytes)) (s .args .condition) (s .args .set) _ (sym (in-arm shownMeaning (e .before .before .evaluate .ensures) (e .evaluation .given .1)))
 
   sum-fits : SFits w64 (hundredths +ℤ belowZero)
   sum-fits = let (n, e, l) = counted in subst (SFits w64) (sym e) (record { sfits = omega arith })
@@ -62,22 +56,22 @@ enum-known-evaluation-2 : tie.Need-enum-known-evaluation-2
 enum-known-evaluation-2 c = search needs
 
 declined-requires : tie.Need-declined-requires
-declined-requires c κs = omega (arith, in-table (scoring _ _ _) (answer (c .before .before .before) _ (c .before .evaluation2 .given .1)))
+declined-requires c κs = omega (arith, in-table (scoring _ _ _) (in-arm shownMeaning (c .before .before .before .evaluate .ensures) (c .before .evaluation2 .given .1)))
 
 returns : tie.Need-returns
 unfolding packed scoreValue remainderAfter
 returns c =
     let t = c .before in
     let e = t .before .before .before in
-    let told = answer (e .before .before) _ (e .evaluation .given .1) in
-    record { number = c .accepted .ensures ∙ ap (λ (z : ℤ). asOne 0 (natAbs z)) (sum-back t) ∙ ap (packed scoreValue) told; remainder = ap (remainderAfter _) told }
+    let told = in-arm shownMeaning (e .before .before .evaluate .ensures) (e .evaluation .given .1) in
+    record { packing = c .accepted .ensures ∙ ap (λ (z : ℤ). asOne 0 (natAbs z)) (sum-back t) ∙ ap (packed scoreValue) told; leaving = ap (remainderAfter _) told }
 
 returns-2 : tie.Need-returns-2
 unfolding packed remainderAfter
 returns-2 c =
     let a = c .before .before in
-    let told = answer (a .before .before) _ (a .evaluation2 .given .1) in
-    record { number = c .declined .ensures ∙ ap (packed scoreValue) told; remainder = ap (remainderAfter _) told }
+    let told = in-arm shownMeaning (a .before .before .evaluate .ensures) (a .evaluation2 .given .1) in
+    record { packing = c .declined .ensures ∙ ap (packed scoreValue) told; leaving = ap (remainderAfter _) told }
 
 pub cerahupo-score-spec : {M : Type 1} → statement M
 cerahupo-score-spec =

@@ -1,11 +1,9 @@
 -- `exports::cerahupo_traverse`: what a traverse returns, packed, and the answers as it left them.
-use mathlib.Core.Path.{_≡_, sym, ap, _∙_}
+use mathlib.Core.Path.{ap, _∙_}
 use native.Mathlib.Omega.{arith}
 use borrow.Author.Needs.{needs}
-use denote.Ref.{now}
-use Rattle.rod.specs.Traversing.{traversed, answerCount}
+use Rattle.answers.proofs.Results.{in-arm}
 use Rattle.rod.specs.Meaning.{traverseMeaning}
-use Rattle.rod.specs.declared.Traversed.{Traversed}
 use Rattle.exports.specs.Packing.{packed, answersValue}
 use Rattle.exports.proofs.Refusals.{in-table}
 use Rattle.exports.proofs.ListingRefusals.{traversing}
@@ -14,11 +12,6 @@ use Rattle.exports.proofs.cerahupo_traverse.Tie as tie
 
 traverse-requires : tie.Need-traverse-requires
 traverse-requires c κs = search needs
-
--- the answer in an arm is the definition's
-answer : (c : tie.After-traverse) (v : Traversed) → c .traverse .result ≡ v → let s = c .before .before .before .before .before in
-    traverseMeaning v ≡ answerCount (traversed (now (s .args .words)) (now (s .args .sets)) (now (s .args .answers)))
-answer c v e = sym (ap traverseMeaning e) ∙ c .traverse .ensures .returning
 
 enum-known-t : tie.Need-enum-known-t
 enum-known-t c = search needs
@@ -39,7 +32,7 @@ refused-listing-requires : tie.Need-refused-listing-requires
 refused-listing-requires c κs =
     let a = c .before in
     let x = a .before .before .before .before in
-    omega (arith, x .before .before .before .before .before .good, in-table (traversing _ _ _) (answer x _ (a .t2 .given .1)))
+    omega (arith, x .before .before .before .before .before .good, in-table (traversing _ _ _) (in-arm traverseMeaning (x .traverse .ensures .returning) (a .t2 .given .1)))
 
 same-length : tie.Need-same-length
 same-length c = search needs
@@ -49,7 +42,7 @@ unfolding packed answersValue
 returns c =
     let a = c .before .before in
     let x = a .before .before .before .before in
-    record { packing = c .accepted .ensures ∙ ap (packed answersValue) (answer x _ (a .t .given .1)); leaving = x .traverse .ensures .leaving }
+    record { packing = c .accepted .ensures ∙ ap (packed answersValue) (in-arm traverseMeaning (x .traverse .ensures .returning) (a .t .given .1)); leaving = x .traverse .ensures .leaving }
 
 same-length-2 : tie.Need-same-length-2
 same-length-2 c = search needs
@@ -59,7 +52,7 @@ unfolding packed
 returns-2 c =
     let a = c .before in
     let x = a .before .before .before .before in
-    record { packing = c .refused .ensures ∙ ap (packed answersValue) (answer x _ (a .enum-told .given .1)); leaving = x .traverse .ensures .leaving }
+    record { packing = c .refused .ensures ∙ ap (packed answersValue) (in-arm traverseMeaning (x .traverse .ensures .returning) (a .enum-told .given .1)); leaving = x .traverse .ensures .leaving }
 
 same-length-3 : tie.Need-same-length-3
 same-length-3 c = search needs
@@ -69,7 +62,7 @@ unfolding packed
 returns-3 c =
     let a = c .before .before in
     let x = a .before .before .before .before in
-    record { packing = c .refused-listing .ensures ∙ ap (packed answersValue) (answer x _ (a .t2 .given .1)); leaving = x .traverse .ensures .leaving }
+    record { packing = c .refused-listing .ensures ∙ ap (packed answersValue) (in-arm traverseMeaning (x .traverse .ensures .returning) (a .t2 .given .1)); leaving = x .traverse .ensures .leaving }
 
 pub cerahupo-traverse-spec : {M : Type 1} → statement M
 cerahupo-traverse-spec =

@@ -4,9 +4,9 @@ use mathlib.Core.Path.{_≡_, sym, ap, subst, _∙_}
 use borrow.Author.Needs.{needs}
 use denote.Ref.{now}
 use Rattle.answers.specs.Answers.{result}
+use Rattle.answers.proofs.Results.{on-equal}
 use Rattle.book.specs.Asked.{AskedAs}
 use Rattle.book.specs.declared.Asked.{Asked}
-use Rattle.book.proofs.AskedLaws.{on-asked}
 use Rattle.score.specs.Decisions.{scoredAnswer}
 use Rattle.score.proofs.decide.Statement.{statement}
 use Rattle.score.proofs.decide.Tie as tie
@@ -35,7 +35,7 @@ unfolding scoredAnswer
 decided c b e =
     let a = c .before .before .before in
     let f = arm (a .before .before) _ (a .asked .given .1) in
-    ap (λ (x : Bool). result x) (sym e ∙ c .is-met .ensures (f .kept)) ∙ on-asked _ (f .told)
+    ap (λ (x : Bool). result x) (sym e ∙ c .is-met .ensures (f .kept)) ∙ on-equal _ (f .told)
 
 returns : tie.Need-returns
 returns c = decided (c .before) _ (c .if1 .taken)
@@ -45,7 +45,7 @@ returns-2 c = decided (c .before) _ (c .if1 .left)
 
 returns-3 : tie.Need-returns-3
 unfolding scoredAnswer
-returns-3 c = let a = c .before in on-asked _ (arm (a .before .before) _ (a .asked2 .given .1))
+returns-3 c = let a = c .before in on-equal _ (arm (a .before .before) _ (a .asked2 .given .1))
 
 pub decide-spec : {M : Type 1} → statement M
 decide-spec =

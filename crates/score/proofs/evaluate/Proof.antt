@@ -3,9 +3,9 @@ use mathlib.Core.Path.{_≡_, ap, subst, _∙_}
 use borrow.Author.Needs.{needs}
 use denote.Ref.{now}
 use Rattle.answers.specs.Answers.{result}
+use Rattle.answers.proofs.Results.{on-equal}
 use Rattle.book.specs.Asked.{AskedAs}
 use Rattle.book.specs.declared.Asked.{Asked}
-use Rattle.book.proofs.AskedLaws.{on-asked}
 use Rattle.score.specs.Shown.{shownAnswer}
 use Rattle.score.specs.declared.exact.Exact.{Exact}
 use Rattle.score.proofs.ShownLaws.{pair-shown}
@@ -34,11 +34,11 @@ unfolding shownAnswer
 returns c =
     let a = c .before .before .before in
     let f = arm (a .before .before) _ (a .asked .given .1) in
-    ap (λ (x : Exact). result x) (pair-shown _ _ (c .expression-score .ensures (f .kept))) ∙ on-asked _ (f .told)
+    ap (λ (x : Exact). result x) (pair-shown _ _ (c .expression-score .ensures (f .kept))) ∙ on-equal _ (f .told)
 
 returns-2 : tie.Need-returns-2
 unfolding shownAnswer
-returns-2 c = let a = c .before in on-asked _ (arm (a .before .before) _ (a .asked2 .given .1))
+returns-2 c = let a = c .before in on-equal _ (arm (a .before .before) _ (a .asked2 .given .1))
 
 pub evaluate-spec : {M : Type 1} → statement M
 evaluate-spec =

@@ -150,21 +150,21 @@ loop-less c = omega (arith, c .before .before .loop-test .taken)
 next : {ps : List Policy} {m : ℕ} {e : Expression} {i : ℕ} {s t : List Exact} {h k : ℕ} → s ≡ t → h ≡ k → Underway ps m e i s h → Underway ps m e i t k
 next {ps = ps} {m = m} {e = e} {i = i} p q u = subst₂ (Underway ps m e i) p q u
 
--- the next node, behind a join and behind a mention
-behind-join : (c : tie.After-chosen Inv-loop μ-loop) → let l = turn (c .before .before .before) in
+-- the next node, after a join and after a mention
+past-join : (c : tie.After-chosen Inv-loop μ-loop) → let l = turn (c .before .before .before) in
     (h : ConditionKept (now (start l .args .cells)) (start l .args .n))
     → Underway (h .book .policies) (start l .args .set) (h .condition .expression) (l .loop .i + 1) (set (l .loop .scores) (l .loop .height - 2) (c .chosen .result)) (l .loop .height - 1)
 unfolding noScore
-behind-join c h =
+past-join c h =
     let t = c .before .before .before in
     let l = turn t in
     after-join (h .book .policies) (start l .args .set) (h .condition .expression) (l .loop .i) (l .loop .scores) (l .loop .height) (l .loop .inv .1 h) _ (joined t h) (two-wait t .0) (two-wait t .1)
     (c .chosen .result) (c .chosen .ensures)
 
-behind-mention : (c : tie.After-policy-score Inv-loop μ-loop) → let l = round (c .before) in
+past-mention : (c : tie.After-policy-score Inv-loop μ-loop) → let l = round (c .before) in
     (h : ConditionKept (now (start l .args .cells)) (start l .args .n))
     → Underway (h .book .policies) (start l .args .set) (h .condition .expression) (l .loop .i + 1) (set (l .loop .scores) (l .loop .height) (c .policy-score .result)) (l .loop .height + 1)
-behind-mention c h =
+past-mention c h =
     let e = c .before in
     let l = round e in
     after-value (h .book .policies) (start l .args .set) (h .condition .expression) (l .loop .i) (l .loop .scores) (l .loop .height) (l .loop .inv .1 h) _ (mentioned e h) (room e)
@@ -180,8 +180,8 @@ loop-again c =
           ⊎-elim
           (λ x.
           next (sym (x .4)) (sym (x .5))
-          (behind-join (record { before = record { before = record { before = record { before = c .before; if1 = x .0 }; one = x .1 }; two = x .2 }; chosen = x .3 }) h))
-          (λ x. next (sym (x .2)) (sym (x .3)) (behind-mention (record { before = record { before = c .before; if1 = x .0 }; policy-score = x .1 }) h))
+          (past-join (record { before = record { before = record { before = record { before = c .before; if1 = x .0 }; one = x .1 }; two = x .2 }; chosen = x .3 }) h))
+          (λ x. next (sym (x .2)) (sym (x .3)) (past-mention (record { before = record { before = c .before; if1 = x .0 }; policy-score = x .1 }) h))
           (c .if1 .came),
     )
 

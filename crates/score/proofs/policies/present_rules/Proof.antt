@@ -15,7 +15,7 @@ use Rattle.peal.specs.Score.{presentRules}
 use Rattle.book.specs.Cells.{PolicyCells}
 use Rattle.score.specs.PolicyScores.{scoredMeaning, presentOf, withScore}
 use Rattle.score.specs.declared.policies.Present.{Present}
-use Rattle.score.proofs.RuleLaws.{none-behind, turn-present, turn-absent, present-value-small, present-count-small}
+use Rattle.score.proofs.RuleLaws.{none-after, turn-present, turn-absent, present-value-small, present-count-small}
 use Rattle.score.proofs.policies.present_rules.Statement.{statement}
 use Rattle.score.proofs.policies.present_rules.Tie as tie
 
@@ -48,7 +48,7 @@ loop-holds c =
     λ q e. (
       omega (arith, c .count-at .ensures q e),
       ap (λ (z : ℤ). record { count = 0; value = z }) (wide-back (d .default-at .result) (default-fits d) ∙ d .default-at .ensures q e)
-          ∙ none-behind (a .set) (q .rules) q (c .count-at .result) (omega (arith, c .count-at .ensures q e)),
+          ∙ none-after (a .set) (q .rules) q (c .count-at .result) (omega (arith, c .count-at .ensures q e)),
     )
 
 abbrev start : tie.At-loop Inv-loop μ-loop → tie.Start Inv-loop μ-loop
