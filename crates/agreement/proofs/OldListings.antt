@@ -11,7 +11,7 @@ use borrow.Author.Tests.{lt-ltb}
 use Rattle.answers.specs.Answers.{result}
 use Rattle.arith.specs.Lists.{every, keep, nonEmpty, subsets}
 use Rattle.arith.specs.Trees.{leaf, join, mapTree, treeValue, leafCount}
-use Rattle.arith.proofs.AnyEvery.{every-append}
+use Rattle.arith.proofs.EveryExists.{every-append}
 use Rattle.arith.proofs.Keep.{keep-append, keep-same}
 use Rattle.arith.proofs.Members.{keep-none}
 use Rattle.arith.proofs.Sublists.{keep-inside}

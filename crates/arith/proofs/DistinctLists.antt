@@ -5,14 +5,14 @@ use mathlib.Core.List.{List, _∷_, map, List·Permᴰ, List·Permᴰ·nil, List
 use mathlib.Core.Path.{_≡_, sym, ap, subst₂, _∙_}
 use lib.Dec.{eqb}
 use borrow.Author.Tests.{eqb-false, ne-eqb}
-use Rattle.arith.specs.Lists.{any, isIn, Distinct}
+use Rattle.arith.specs.Lists.{exists, isIn, Distinct}
 use Rattle.arith.proofs.Distinct.{neither}
-use Rattle.arith.proofs.Reordering.{any-reordered}
+use Rattle.arith.proofs.Reordering.{exists-reordered}
 
 pub distinct-reordered : {X Y : List ℕ} → List·Permᴰ X Y → Distinct X → Distinct Y
 distinct-reordered List·Permᴰ·nil h = tt
 distinct-reordered (List·Permᴰ·cons {b = b} {l₁ = X} e d) h =
-    (sym (any-reordered (λ y. eqb y b) d) ∙ ap (λ (x : ℕ). isIn x X) (sym e) ∙ h .0, distinct-reordered d (h .1))
+    (sym (exists-reordered (λ y. eqb y b) d) ∙ ap (λ (x : ℕ). isIn x X) (sym e) ∙ h .0, distinct-reordered d (h .1))
 distinct-reordered (List·Permᴰ·swap {a = a} {b = b} {l = X} e f) h = subst₂ (λ (x y : ℕ). Distinct (x ∷ y ∷ X)) f e swapped
   where
     swapped : Distinct (b ∷ a ∷ X)
@@ -23,11 +23,11 @@ distinct-reordered (List·Permᴰ·swap {a = a} {b = b} {l = X} e f) h = subst�
 distinct-reordered (List·Permᴰ·trans c d) h = distinct-reordered d (distinct-reordered c h)
 
 module _ {A : Type 0} where
-  none-inside : (test : A → Bool) {Y X : List A} → Sublistᴰ Y X → any test X ≡ false → any test Y ≡ false
+  none-inside : (test : A → Bool) {Y X : List A} → Sublistᴰ Y X → exists test X ≡ false → exists test Y ≡ false
   none-inside test Sublistᴰ·slnil h = h
-  none-inside test (Sublistᴰ·cons {a = x} {l₂ = X} s) h = none-inside test s (neither (test x) (any test X) h .1)
+  none-inside test (Sublistᴰ·cons {a = x} {l₂ = X} s) h = none-inside test s (neither (test x) (exists test X) h .1)
   none-inside test (Sublistᴰ·cons-cons {b = x} {l₂ = X} e s) h =
-      let q = neither (test x) (any test X) h in
+      let q = neither (test x) (exists test X) h in
       rw (ap test e ∙ q .0) (none-inside test s (q .1))
 
 pub distinct-inside : {Y X : List ℕ} → Sublistᴰ Y X → Distinct X → Distinct Y

@@ -15,7 +15,7 @@ pub mod Trees
 pub mod Order
 pub mod Whole
 pub mod Signed
-pub mod AnyEvery
+pub mod EveryExists
 pub mod SubsetTests
 pub mod DistinctLists
 pub mod Below

@@ -13,9 +13,9 @@ module _ {A : Type 0} where
   every test (x ∷ xs) = test x && every test xs
 
   -- at least one member passes the test
-  abbrev pub any : (A → Bool) → List A → Bool
-  any test [] = false
-  any test (x ∷ xs) = test x || any test xs
+  abbrev pub exists : (A → Bool) → List A → Bool
+  exists test [] = false
+  exists test (x ∷ xs) = test x || exists test xs
 
   -- the members that pass the test, in their order
   abbrev pub keep : (A → Bool) → List A → List A
@@ -52,7 +52,7 @@ padded n z xs = xs ++ replicate (n - length xs) z
 
 -- x is in the list
 abbrev pub isIn : ℕ → List ℕ → Bool
-isIn x l = any (λ y. eqb y x) l
+isIn x l = exists (λ y. eqb y x) l
 
 -- each is below n
 abbrev pub AllBelow : ℕ → List ℕ → Type 0

@@ -11,8 +11,8 @@ use lib.ListN.{length, length-append, length-set, length-map}
 use borrow.Author.Tests.{leb-true, ltb-true, eqb-true, eqb-false, not-true}
 use Rattle.answers.specs.Answers.{result}
 use Rattle.answers.proofs.Results.{no-refusal, result-is, required, gone-on}
-use Rattle.arith.specs.Lists.{any, Each, AllBelow, Distinct}
-use Rattle.arith.proofs.AnyEvery.{any-map}
+use Rattle.arith.specs.Lists.{exists, Each, AllBelow, Distinct}
+use Rattle.arith.proofs.EveryExists.{exists-map}
 use Rattle.arith.proofs.Distinct.{at-most, distinct-more}
 use Rattle.arith.proofs.Each.{each-none, each-get, each-more, each-set}
 use Rattle.arith.proofs.Options.{Finds}
@@ -74,14 +74,14 @@ module _ (p : Policy) (h : PolicyInRange p) where
   rules-at-most = omega (arith, at-most 16 (signalsOf (p .rules)) (h .signals) (h .distinct), length-map (p .rules) (λ (r : Rule). r .signal))
 
   rule-added : (r : Rule) → roomForRule (p .operator) (length (p .rules)) ≡ true → r .signal < 16 → scoreInRange (p .operator) (r .score) ≡ true
-      → any (λ (x : Rule). eqb (x .signal) (r .signal)) (p .rules) ≡ false → PolicyInRange (withRule p r)
+      → exists (λ (x : Rule). eqb (x .signal) (r .signal)) (p .rules) ≡ false → PolicyInRange (withRule p r)
   unfolding withRule
   rule-added r room small score new =
       let more : signalsOf (p .rules ++ (r ∷ [])) ≡ signalsOf (p .rules) ++ (r .signal ∷ []) = map-append (λ (x : Rule). x .signal) (p .rules) (r ∷ []) in
       record {
         default = h .default;
         signals = subst (AllBelow 16) (sym more) (each-more (λ (x : ℕ). x < 16) (signalsOf (p .rules)) (r .signal) (h .signals) small);
-        distinct = subst Distinct (sym more) (distinct-more (signalsOf (p .rules)) (r .signal) (h .distinct) (any-map (λ (x : Rule). x .signal) (λ y. eqb y (r .signal)) (p .rules) ∙ new));
+        distinct = subst Distinct (sym more) (distinct-more (signalsOf (p .rules)) (r .signal) (h .distinct) (exists-map (λ (x : Rule). x .signal) (λ y. eqb y (r .signal)) (p .rules) ∙ new));
         scores = each-more (λ (x : Rule). scoreInRange (p .operator) (x .score) ≡ true) (p .rules) r (h .scores) score;
         room = λ e. omega (arith, length-append (p .rules) (r ∷ []), room-in-mul (p .operator) (p .rules) room e);
       }

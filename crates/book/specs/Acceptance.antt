@@ -6,7 +6,7 @@ use mathlib.Core.Option.{Option, none, some}
 use lib.Dec.{ltb, eqb}
 use lib.IntN.{ℤ, pos}
 use lib.ListN.{length, set}
-use Rattle.arith.specs.Lists.{any}
+use Rattle.arith.specs.Lists.{exists}
 use Rattle.arith.specs.Trees.{treeValue}
 use Rattle.answers.specs.Answers.{Answer, result, require}
 use Rattle.peal.specs.Policies.{Rule, Policy, MinMax, Expression, Exclusion, Condition, Book, policyAt}
@@ -74,8 +74,8 @@ excludes a b x = (eqb (x .first) a && eqb (x .second) b) || (eqb (x .first) b &&
 unfoldable pub isNew : BookSoFar → Form → Bool
 isNew so oldZero = true
 isNew so (policy op d) = true
-isNew so (rule s v) = not (any (λ (q : Rule). eqb (q .signal) s) (lastPolicy (so .book) .rules))
-isNew so (exclusion a b) = not (any (excludes a b) (so .book .exclusions))
+isNew so (rule s v) = not (exists (λ (q : Rule). eqb (q .signal) s) (lastPolicy (so .book) .rules))
+isNew so (exclusion a b) = not (exists (excludes a b) (so .book .exclusions))
 isNew so (condition c t e) = true
 
 -- `p OP` alone: D is 100 for `min` and `mul`, 0 for `max` and `sum`; in a book whose first line is `o` it is 0 for all four

@@ -11,7 +11,7 @@ use lib.ListN.{length}
 use lib.Pow.{pow-add}
 use borrow.Author.Tests.{leb-true, le-leb, lt-leb, ltb-true, le-ltb}
 use lib.Signed.{leZ, ltZ}
-use Rattle.arith.specs.Lists.{any}
+use Rattle.arith.specs.Lists.{exists}
 use Rattle.arith.proofs.Tests.{and-left, same-answer}
 use Rattle.arith.proofs.Whole.{times-assoc, times-one}
 use Rattle.peal.specs.Policies.{Rule, MinMax, smaller, larger}
@@ -119,23 +119,23 @@ unfolding within start
 not-at-start (pos t) h = lt-leb 200001 t (omega (arith, leb-true t 200000 h))
 not-at-start (negsuc t) h = refl
 
-max-any : (t : ℤ) → ltZ t (start Max) ≡ false → (X : List Rule) → ltZ t (worth Max X) ≡ any (λ r. ltZ t (r .score)) X
+max-exists : (t : ℤ) → ltZ t (start Max) ≡ false → (X : List Rule) → ltZ t (worth Max X) ≡ exists (λ r. ltZ t (r .score)) X
 unfolding worth combinedOf
-max-any t h [] = h
-max-any t h (r ∷ X) = larger-above t (r .score) (worth Max X) ∙ ap (λ (b : Bool). ltZ t (r .score) || b) (max-any t h X)
+max-exists t h [] = h
+max-exists t h (r ∷ X) = larger-above t (r .score) (worth Max X) ∙ ap (λ (b : Bool). ltZ t (r .score) || b) (max-exists t h X)
 
-min-any : (t : ℤ) → leZ (start Min) t ≡ false → (X : List Rule) → leZ (worth Min X) t ≡ any (λ r. leZ (r .score) t) X
+min-exists : (t : ℤ) → leZ (start Min) t ≡ false → (X : List Rule) → leZ (worth Min X) t ≡ exists (λ r. leZ (r .score) t) X
 unfolding worth combinedOf
-min-any t h [] = h
-min-any t h (r ∷ X) = smaller-at-most t (r .score) (worth Min X) ∙ ap (λ (b : Bool). leZ (r .score) t || b) (min-any t h X)
+min-exists t h [] = h
+min-exists t h (r ∷ X) = smaller-at-most t (r .score) (worth Min X) ∙ ap (λ (b : Bool). leZ (r .score) t || b) (min-exists t h X)
 
 -- a set is worth what its limit asks exactly if it has the property
 pub worth-has : (o : Operator) (t : ℤ) (X : List Rule) → RulesFit o X → within (negℤ (pos 200000)) (pos 200000) t ≡ true
     → reachedOf o (limitOf o t (length X)) (worth o X) ≡ has o t X
 unfolding reachedOf limitOf has sumAbove productAtMost scaledProduct scaled
 worth-has Sum t X f h = ap (ltZ t) (sym (total-worth X))
-worth-has Max t X f h = max-any t (not-above-start t h) X
-worth-has Min t X f h = min-any t (not-at-start t h) X
+worth-has Max t X f h = max-exists t (not-above-start t h) X
+worth-has Min t X f h = min-exists t (not-at-start t h) X
 worth-has Mul t X f h =
     let n = product-natural X (f .scores) in
     ap (λ (z : ℤ). leZ (z *ℤ pos 100) (limitOf Mul t (length X))) (sym (product-worth X) ∙ n .1)

@@ -11,9 +11,9 @@ use lib.Dec.{eqb}
 use lib.ListN.{length, getD, set, length-set, replicate}
 use lib.Seq.{getD-set-same, getD-set-other}
 use borrow.Author.Tests.{eqb-true, eqb-false}
-use Rattle.arith.specs.Lists.{any, every, below}
+use Rattle.arith.specs.Lists.{exists, every, below}
 use Rattle.arith.specs.Tables.{Written}
-use Rattle.arith.proofs.AnyEvery.{any-append, any-either}
+use Rattle.arith.proofs.EveryExists.{exists-append, exists-either}
 use Rattle.arith.proofs.Below.{every-below}
 use Rattle.arith.proofs.Digits.{digits}
 use Rattle.arith.proofs.Each.{each-front, each-rest}
@@ -173,7 +173,7 @@ reached-more s masks group table left r p =
       told = λ x h.
           p .told x h
           ∙ ap₂ (λ (a b : Bool). a || b) (r .told x h) (r .told (without s x) (omega (arith, without-less s x)))
-          ∙ sym (any-either (maskReaches (suc s) group x) (maskReaches s group x) (maskReaches s group (without s x)) (mask-more s group x) masks);
+          ∙ sym (exists-either (maskReaches (suc s) group x) (maskReaches s group x) (maskReaches s group (without s x)) (mask-more s group x) masks);
     }
 
 -- ---- the records' masks
@@ -211,10 +211,10 @@ module _ (ws : List ℕ) (from mid end : ℕ) (h : from ≤ mid) (g : mid ≤ en
         room = s .room;
         told = λ x l.
             s .told x l
-            ∙ ap (λ (t : Bool). t || any (maskReaches 0 group x) (masksFrom ws mid (end - mid))) (f .told x l)
-            ∙ or-assoc (tells table x) (any (maskReaches 0 group x) (masksFrom ws from (mid - from))) (any (maskReaches 0 group x) (masksFrom ws mid (end - mid)))
+            ∙ ap (λ (t : Bool). t || exists (maskReaches 0 group x) (masksFrom ws mid (end - mid))) (f .told x l)
+            ∙ or-assoc (tells table x) (exists (maskReaches 0 group x) (masksFrom ws from (mid - from))) (exists (maskReaches 0 group x) (masksFrom ws mid (end - mid)))
             ∙ ap (λ (t : Bool). tells table x || t)
-            (sym (ap (any (maskReaches 0 group x)) in-two ∙ any-append (maskReaches 0 group x) (masksFrom ws from (mid - from)) (masksFrom ws mid (end - mid))));
+            (sym (ap (exists (maskReaches 0 group x)) in-two ∙ exists-append (maskReaches 0 group x) (masksFrom ws from (mid - from)) (masksFrom ws mid (end - mid))));
       }
 
 -- the masks before index i are in the table
@@ -222,7 +222,7 @@ pub record Gathering (ws : List ℕ) (from end group : ℕ) (table left : List �
   pub more : MasksAt ws i end
   pub room : length left ≡ 16
   pub same : (x : ℕ) → x < 1024
-      → (tells left x || any (maskReaches 0 group x) (masksFrom ws i (end - i))) ≡ (tells table x || any (maskReaches 0 group x) (masksFrom ws from (end - from)))
+      → (tells left x || exists (maskReaches 0 group x) (masksFrom ws i (end - i))) ≡ (tells table x || exists (maskReaches 0 group x) (masksFrom ws from (end - from)))
 
 pub gathered-none : (ws : List ℕ) (from end group : ℕ) (table : List ℕ) → length table ≡ 16 → MasksAt ws from end → Gathering ws from end group table table from
 gathered-none ws from end group table room m = record { more = m; room = room; same = λ x h. refl }
@@ -252,9 +252,9 @@ module _ {ws : List ℕ} {from end group : ℕ} {table left : List ℕ} {i : ℕ
         more = masks-after (g .more) some;
         room = a .room;
         same = λ x h.
-            ap (λ (t : Bool). t || any (maskReaches 0 group x) (masksFrom ws (i + 1) (end - (i + 1)))) (a .told x h)
-            ∙ or-assoc (tells left x) (maskReaches 0 group x (lineAt ws i)) (any (maskReaches 0 group x) (masksFrom ws (i + 1) (end - (i + 1))))
-            ∙ ap (λ (ms : List ℕ). tells left x || any (maskReaches 0 group x) ms) (sym (first-mask (g .more) some))
+            ap (λ (t : Bool). t || exists (maskReaches 0 group x) (masksFrom ws (i + 1) (end - (i + 1)))) (a .told x h)
+            ∙ or-assoc (tells left x) (maskReaches 0 group x (lineAt ws i)) (exists (maskReaches 0 group x) (masksFrom ws (i + 1) (end - (i + 1))))
+            ∙ ap (λ (ms : List ℕ). tells left x || exists (maskReaches 0 group x) ms) (sym (first-mask (g .more) some))
             ∙ g .same x h;
       }
 
@@ -266,7 +266,7 @@ module _ {ws : List ℕ} {from end group : ℕ} {table left : List ℕ} {i : ℕ
         room = g .room;
         told = λ x h.
             sym (or-false (tells left x))
-            ∙ ap (λ (n : ℕ). tells left x || any (maskReaches 0 group x) (masksFrom ws i n)) (sym no-more)
+            ∙ ap (λ (n : ℕ). tells left x || exists (maskReaches 0 group x) (masksFrom ws i n)) (sym no-more)
             ∙ g .same x h;
       }
     where
@@ -305,14 +305,14 @@ no-bits x = ap (λ (w : ℕ). present w (x % 64)) (zeros 16 (x / 64)) ∙ presen
 pub reached-none : (ws : List ℕ) (from end group : ℕ) (table : List ℕ) → Gathered ws from end group (replicate 16 0) table
     → Reached 0 (masksFrom ws from (end - from)) group table
 reached-none ws from end group table g =
-    record { room = g .room; told = λ x h. g .told x h ∙ ap (λ (t : Bool). t || any (maskReaches 0 group x) (masksFrom ws from (end - from))) (no-bits x) }
+    record { room = g .room; told = λ x h. g .told x h ∙ ap (λ (t : Bool). t || exists (maskReaches 0 group x) (masksFrom ws from (end - from))) (no-bits x) }
 
 -- no record at all
 pub none-inside : (ws : List ℕ) (from end group : ℕ) → end ≤ from → GroupOf (someLine (masksFrom ws from (end - from))) group (replicate 16 0)
 unfolding someLine tells masksFrom
 none-inside ws from end group h k b j l =
     ap₂ (λ (n m : ℕ). present (getD (replicate 16 0) n 0) m) (block-of k j l) (bit-of k j l) ∙ no-bits (64 * k + j)
-    ∙ sym (ap (λ (n : ℕ). any (λ m. inside m (64 * (16 * group + k) + j)) (masksFrom ws from n)) no-more)
+    ∙ sym (ap (λ (n : ℕ). exists (λ m. inside m (64 * (16 * group + k) + j)) (masksFrom ws from n)) no-more)
   where
     no-more : end - from ≡ 0
     no-more = omega arith
@@ -328,7 +328,7 @@ reached-all masks group table within sets r k b j h =
     place : (g n m : ℕ) → 1024 * g + (64 * n + m) ≡ 64 * (16 * g + n) + m
     place g n m = omega arith
 
-    go : (ms : List ℕ) → AllSets ms → any (maskReaches 10 group (64 * k + j)) ms ≡ any (λ m. inside m (64 * (16 * group + k) + j)) ms
+    go : (ms : List ℕ) → AllSets ms → exists (maskReaches 10 group (64 * k + j)) ms ≡ exists (λ m. inside m (64 * (16 * group + k) + j)) ms
     go [] s = refl
     go (m ∷ ms) s =
         ap₂ (λ (a c : Bool). a || c)

@@ -10,11 +10,11 @@ use lib.IntN.{ℤ, pos, negsuc, _+ℤ_, _*ℤ_, *ℤ-comm, +ℤ-idl}
 use lib.ListN.{length}
 use lib.Signed.{leZ, ltZ}
 use borrow.Author.Tests.{leb-true}
-use Rattle.arith.specs.Lists.{any, Each}
+use Rattle.arith.specs.Lists.{exists, Each}
 use Rattle.arith.proofs.Order.{leZ-trans, ltZ-leZ-trans, not-less, leZ-plus, leZ-times, scale-scale}
 use Rattle.arith.proofs.Whole.{+ℤ-swap, *ℤ-swap}
 use Rattle.arith.proofs.Tests.{clash, and-right, or-right, or-then}
-use Rattle.arith.proofs.Reordering.{same-reordered, length-reordered, any-reordered}
+use Rattle.arith.proofs.Reordering.{same-reordered, length-reordered, exists-reordered}
 use Rattle.peal.specs.Policies.{Rule}
 use Rattle.peal.specs.Score.{scaled, total, product, scaledProduct}
 use Rattle.peal.specs.Ranking.{ranksAbove}
@@ -41,8 +41,8 @@ unfolding has sumAbove productAtMost scaledProduct
 has-reordered Sum t d = ap (ltZ t) (total-reordered d)
 has-reordered Mul t d =
     ap₂ (λ (p : ℤ) (n : ℕ). leZ (p *ℤ pos (100 ^ (8 - n))) (scaled t)) (product-reordered d) (length-reordered d)
-has-reordered Max t d = any-reordered (λ r. ltZ t (r .score)) d
-has-reordered Min t d = any-reordered (λ r. leZ (r .score) t) d
+has-reordered Max t d = exists-reordered (λ r. ltZ t (r .score)) d
+has-reordered Min t d = exists-reordered (λ r. leZ (r .score) t) d
 
 -- ---- a rule more, and a rule of higher rank, for each operator
 
@@ -83,8 +83,8 @@ has-added Mul t r X fit h =
     (subst (λ (z : ℤ). leZ (scaledProduct (r ∷ X)) z ≡ true) (with-unit X (length X) (fit .room refl))
     (product-rises (r .score) (pos 100) X (100 ^ (8 - suc (length X))) (fit .scores .1)
     (and-right (leZ (pos 0) (r .score)) (leZ (r .score) (pos 100)) (fit .scores .0)))) h
-has-added Max t r X fit h = or-right (ltZ t (r .score)) (any (λ r. ltZ t (r .score)) X) h
-has-added Min t r X fit h = or-right (leZ (r .score) t) (any (λ r. leZ (r .score) t) X) h
+has-added Max t r X fit h = or-right (ltZ t (r .score)) (exists (λ r. ltZ t (r .score)) X) h
+has-added Min t r X fit h = or-right (leZ (r .score) t) (exists (λ r. leZ (r .score) t) X) h
 
 pub has-exchanged : (op : Operator) (t : ℤ) (a b : Rule) (X : List Rule) → RulesFit op X → ranksAbove op (b .score) (a .score) ≡ false
     → has op t (b ∷ X) ≡ true → has op t (a ∷ X) ≡ true
@@ -95,8 +95,8 @@ has-exchanged Mul t a b X fit l h =
     leZ-trans (scaledProduct (a ∷ X)) (scaledProduct (b ∷ X)) (scaled t)
     (product-rises (a .score) (b .score) X (100 ^ (8 - length (a ∷ X))) (fit .scores) (not-less (b .score) (a .score) l)) h
 has-exchanged Max t a b X fit l h =
-    or-then (ltZ t (b .score)) (ltZ t (a .score)) (any (λ r. ltZ t (r .score)) X)
+    or-then (ltZ t (b .score)) (ltZ t (a .score)) (exists (λ r. ltZ t (r .score)) X)
     (λ k. ltZ-leZ-trans t (b .score) (a .score) k (not-less (a .score) (b .score) l)) h
 has-exchanged Min t a b X fit l h =
-    or-then (leZ (b .score) t) (leZ (a .score) t) (any (λ r. leZ (r .score) t) X)
+    or-then (leZ (b .score) t) (leZ (a .score) t) (exists (λ r. leZ (r .score) t) X)
     (λ k. leZ-trans (a .score) (b .score) t (not-less (b .score) (a .score) l) k) h

@@ -6,8 +6,8 @@ use mathlib.Core.Path.{_≡_, refl, sym, ap, ap₂, _∙_}
 use native.Mathlib.Omega.{arith}
 use lib.IntN.{ℤ}
 use lib.ListN.{length}
-use Rattle.arith.specs.Lists.{every, any, keep, nonEmpty, subsets}
-use Rattle.arith.proofs.AnyEvery.{any-in, any-out, any-keep, any-same}
+use Rattle.arith.specs.Lists.{every, exists, keep, nonEmpty, subsets}
+use Rattle.arith.proofs.EveryExists.{exists-in, exists-out, exists-keep, exists-same}
 use Rattle.arith.proofs.NonEmpty.{some-around}
 use Rattle.arith.proofs.Reordering.{keep-reordered, some-reordered}
 use Rattle.arith.proofs.Sublists.{keep-inside}
@@ -41,47 +41,47 @@ module _ (property : List Rule → Bool) where
   -- n bounds the size of X
   minimal-inside : (n : ℕ) (X : List Rule) → length X < n → nonEmpty X ≡ true → property X ≡ true → MinimalInside X
   minimal-inside zero X l some h = absurd (omega arith)
-  minimal-inside (suc n) X l some h = go (any property (smallerSets X)) refl (λ Y k. minimal-inside n Y (omega arith))
+  minimal-inside (suc n) X l some h = go (exists property (smallerSets X)) refl (λ Y k. minimal-inside n Y (omega arith))
     where
-      go : (t : Bool) → any property (smallerSets X) ≡ t → ((Y : List Rule) → length Y < length X → nonEmpty Y ≡ true → property Y ≡ true → MinimalInside Y)
+      go : (t : Bool) → exists property (smallerSets X) ≡ t → ((Y : List Rule) → length Y < length X → nonEmpty Y ≡ true → property Y ≡ true → MinimalInside Y)
           → MinimalInside X
       go true e deeper =
-          let (Y, m, y) = any-out property (smallerSets X) e in
+          let (Y, m, y) = exists-out property (smallerSets X) e in
           let (s, k, shorter) = smaller-out X Y m in
           let (Z, t, least) = deeper Y shorter k y in
           (Z, Sublistᴰ·trans {l₁ = Z} {l₂ = Y} t s, least)
       go false e deeper = (
         X,
         Sublistᴰ·refl X,
-        record { some = some; holds = h; noSmaller = λ Y s k l. not-yes (property Y) (λ y. clash (any-in property (smaller-in X Y s k l) y) e) },
+        record { some = some; holds = h; noSmaller = λ Y s k l. not-yes (property Y) (λ y. clash (exists-in property (smaller-in X Y s k l) y) e) },
       )
 
   -- some set inside X is minimal exactly if X is not empty and has the property
-  some-minimal : (X : List Rule) → AddingKeeps property X → any (minimal property) (setsInside X) ≡ (nonEmpty X && property X)
-  some-minimal X keeps = same-answer (any (minimal property) (setsInside X)) (nonEmpty X && property X) to from
+  some-minimal : (X : List Rule) → AddingKeeps property X → exists (minimal property) (setsInside X) ≡ (nonEmpty X && property X)
+  some-minimal X keeps = same-answer (exists (minimal property) (setsInside X)) (nonEmpty X && property X) to from
     where
-      to : any (minimal property) (setsInside X) ≡ true → (nonEmpty X && property X) ≡ true
+      to : exists (minimal property) (setsInside X) ≡ true → (nonEmpty X && property X) ≡ true
       to h =
-          let (Y, m, k) = any-out (minimal property) (setsInside X) h in
+          let (Y, m, k) = exists-out (minimal property) (setsInside X) h in
           let (s, some) = inside-out X m in
           rw (some-around s some) (keeps Y s (minimal-out property Y some k .holds))
 
-      from : (nonEmpty X && property X) ≡ true → any (minimal property) (setsInside X) ≡ true
+      from : (nonEmpty X && property X) ≡ true → exists (minimal property) (setsInside X) ≡ true
       from h =
           let (Y, s, least) = minimal-inside (suc (length X)) X (omega arith) (and-left (nonEmpty X) (property X) h) (and-right (nonEmpty X) (property X) h) in
-          any-in (minimal property) (inside-in s (least .some)) (minimal-in property Y least)
+          exists-in (minimal property) (inside-in s (least .some)) (minimal-in property Y least)
 
   -- some minimal set of the rules has rules of one kind alone: some set of the rules of that kind is minimal
   minimal-kept : (kind : Rule → Bool) (rules : List Rule)
-      → any (every kind) (minimalSets property rules) ≡ any (minimal property) (setsInside (keep kind rules))
+      → exists (every kind) (minimalSets property rules) ≡ exists (minimal property) (setsInside (keep kind rules))
   unfolding minimalSets setsInside
   minimal-kept kind rules =
-      any-keep (every kind) (minimal property) (setsInside rules)
-      ∙ any-keep (λ Y. minimal property Y && every kind Y) nonEmpty (subsets rules)
-      ∙ any-same (λ Y. nonEmpty Y && (minimal property Y && every kind Y)) (λ Y. (nonEmpty Y && minimal property Y) && every kind Y) (subsets rules)
+      exists-keep (every kind) (minimal property) (setsInside rules)
+      ∙ exists-keep (λ Y. minimal property Y && every kind Y) nonEmpty (subsets rules)
+      ∙ exists-same (λ Y. nonEmpty Y && (minimal property Y && every kind Y)) (λ Y. (nonEmpty Y && minimal property Y) && every kind Y) (subsets rules)
       (λ Y m. sym (and-assoc (nonEmpty Y) (minimal property Y) (every kind Y)))
       ∙ subsets-kept kind (λ Y. nonEmpty Y && minimal property Y) rules
-      ∙ sym (any-keep (minimal property) nonEmpty (subsets (keep kind rules)))
+      ∙ sym (exists-keep (minimal property) nonEmpty (subsets (keep kind rules)))
 
 pub minimal-sets-decide : MinimalSetsDecide
 unfolding presentRules allPresent
@@ -108,6 +108,6 @@ module _ (o : Operator) (t : ℤ) (rules : List Rule) (set : ℕ) where
 
 pub lines-decide : LinesDecide
 lines-decide o t rules set fit =
-    ap (any (allPresent set)) (lines-minimal o t rules)
+    ap (exists (allPresent set)) (lines-minimal o t rules)
     ∙ minimal-sets-decide (has o t) (ranked o rules) set (adding-keeps o t rules set fit)
     ∙ ranked-has o t rules set

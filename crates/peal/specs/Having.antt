@@ -3,7 +3,7 @@ use mathlib.Core.Bool.{Bool}
 use mathlib.Core.List.{List}
 use lib.IntN.{ℤ}
 use lib.Signed.{leZ, ltZ}
-use Rattle.arith.specs.Lists.{any}
+use Rattle.arith.specs.Lists.{exists}
 use Rattle.peal.specs.Policies.{Rule}
 use Rattle.peal.specs.Lines.{sumAbove, productAtMost}
 use Rattle.peal.specs.declared.Operator.{Operator}
@@ -13,5 +13,5 @@ use Rattle.peal.specs.declared.Operator.the-variants.{Min, Max, Sum, Mul
 unfoldable pub has : Operator → ℤ → List Rule → Bool
 has Sum t X = sumAbove t X
 has Mul t X = productAtMost t X
-has Max t X = any (λ r. ltZ t (r .score)) X
-has Min t X = any (λ r. leZ (r .score) t) X
+has Max t X = exists (λ r. ltZ t (r .score)) X
+has Min t X = exists (λ r. leZ (r .score) t) X

@@ -4,7 +4,7 @@ use mathlib.Core.Bool.{_&&_}
 use mathlib.Core.List.{List}
 use mathlib.Core.Path.{_≡_}
 use lib.IntN.{ℤ}
-use Rattle.arith.specs.Lists.{any, nonEmpty}
+use Rattle.arith.specs.Lists.{exists, nonEmpty}
 use Rattle.peal.specs.Policies.{Rule}
 use Rattle.peal.specs.Score.{presentRules}
 use Rattle.peal.specs.Lines.{lines}
@@ -17,4 +17,4 @@ use Rattle.peal.specs.declared.Operator.{Operator}
 abbrev pub LinesDecide : Type 0
 LinesDecide =
     (o : Operator) (t : ℤ) (rules : List Rule) (set : ℕ) → RulesFit o rules
-    → any (allPresent set) (lines o t rules) ≡ (nonEmpty (presentRules set rules) && has o t (presentRules set rules))
+    → exists (allPresent set) (lines o t rules) ≡ (nonEmpty (presentRules set rules) && has o t (presentRules set rules))

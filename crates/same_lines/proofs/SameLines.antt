@@ -7,9 +7,9 @@ use mathlib.Core.Path.{_≡_, refl, sym, ap, subst, _∙_}
 use native.Mathlib.Omega.{arith}
 use Rattle.answers.specs.Answers.{result}
 use Rattle.answers.proofs.Results.{result-is}
-use Rattle.arith.proofs.AnyEvery.{any-in}
+use Rattle.arith.proofs.EveryExists.{exists-in}
 use Rattle.arith.proofs.Order.{le-or-lt}
-use Rattle.arith.proofs.Reordering.{any-reordered}
+use Rattle.arith.proofs.Reordering.{exists-reordered}
 use Rattle.arith.proofs.Tests.{clash, beq-same, beq-self}
 use Rattle.signals.specs.Sets.{inside}
 use Rattle.signals.proofs.SetOfLaws.{inside-self}
@@ -98,7 +98,7 @@ module _ (one two : List ℕ) (p q : ListedPolicy) (a : Known one p) (b : Known 
   -- with the same lines they say the same of every set, and the other way round
   lines-then : SameLines p q → (set : ℕ) → SameValue set
   unfolding someLine
-  lines-then lines set = bound .alike set (any-reordered (λ l. inside l set) lines)
+  lines-then lines set = bound .alike set (exists-reordered (λ l. inside l set) lines)
 
   then-lines : ((set : ℕ) → set ≤ 65535 → SameValue set) → SameLines p q
   then-lines same =
@@ -137,7 +137,7 @@ module _ (one two : List ℕ) (p q : ListedPolicy) (a : Known one p) (b : Known 
   -- what a policy says of a line of its own
   of-own-line : (r : ListedPolicy) (set : ℕ) → Among set (r .lines) → policyValue set r ≡ byLines r set → policyValue set r ≡ cond (r .turned) false true
   unfolding someLine
-  of-own-line r set m e = e ∙ ap (λ (s : Bool). cond (r .turned) (not s) s) (any-in (λ l. inside l set) m (inside-self set))
+  of-own-line r set m e = e ∙ ap (λ (s : Bool). cond (r .turned) (not s) s) (exists-in (λ l. inside l set) m (inside-self set))
 
   -- where they do not say the same, the one that has the line is told by what the first says
   line-owner : (set : ℕ) → (SameValue set → ⊥) → OfOneAlone p q set → AloneOf p q (owner (p .turned) (policyValue set p)) set
