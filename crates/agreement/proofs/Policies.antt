@@ -12,7 +12,7 @@ use Rattle.rod.specs.Reading.{someLine, policyValue}
 use Rattle.peal.specs.Policies.{Rule, Policy, maskOf}
 use Rattle.peal.specs.Score.{presentRules, scoreOf, policyScore, meets}
 use Rattle.translation.specs.Translation.{quiet, turned, listed}
-use Rattle.peal.specs.Having.{has}
+use Rattle.peal.specs.Lines.{has}
 use Rattle.peal.specs.Presence.{somePresent}
 use Rattle.translation.specs.MeetingIsHaving.{turnedOver}
 use Rattle.peal.specs.SearchFindsLines.{RulesFit}

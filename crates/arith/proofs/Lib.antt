@@ -9,15 +9,15 @@ pub mod Sublists
 pub mod NonEmpty
 pub mod Subsets
 pub mod Reordering
-pub mod Distinct
 pub mod Bits
 pub mod Trees
 pub mod Order
 pub mod Whole
 pub mod Signed
 pub mod EveryExists
+pub mod InOrder
+pub mod Distinct
 pub mod SubsetTests
-pub mod DistinctLists
 pub mod Below
 pub mod Options
 pub mod Digits

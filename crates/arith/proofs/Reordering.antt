@@ -4,7 +4,8 @@ use mathlib.Core.Bool.{Bool, true, false, cond, _||_}
 use mathlib.Core.List.{List, _∷_, List·Memᴰ, List·Memᴰ·head, List·Memᴰ·tail, List·Permᴰ, List·Permᴰ·nil, List·Permᴰ·cons, List·Permᴰ·swap, List·Permᴰ·trans, Permᴰ·refl}
 use mathlib.Core.Path.{_≡_, refl, sym, ap, subst, _∙_}
 use lib.ListN.{length}
-use Rattle.arith.specs.Lists.{exists, keep, nonEmpty, Each}
+use Rattle.arith.specs.Lists.{exists, keep, nonEmpty}
+use Rattle.arith.specs.Members.{Each}
 use Rattle.arith.proofs.Members.{each-in, each-out}
 use Rattle.arith.proofs.Tests.{or-swap}
 

@@ -12,7 +12,8 @@ use lib.ListN.{length, getD, take, drop, drop-of-length-le}
 use lib.Seq.{drop-cons, getD-take}
 use borrow.Author.Tests.{eq-eqb, ne-eqb, lt-ltb, le-ltb}
 use Rattle.answers.specs.Answers.{result, refused}
-use Rattle.arith.specs.Lists.{exists, every, Distinct}
+use Rattle.arith.specs.Lists.{exists, every}
+use Rattle.arith.specs.Members.{Distinct}
 use Rattle.arith.proofs.EveryExists.{exists-map}
 use Rattle.signals.specs.Sets.{present}
 use Rattle.signals.proofs.SetOfLaws.{present-set}

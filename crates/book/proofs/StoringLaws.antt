@@ -12,7 +12,8 @@ use Rattle.answers.specs.Answers.{result}
 use Rattle.answers.proofs.Results.{no-refusal}
 use Rattle.arith.proofs.Order.{le-or-lt}
 use Rattle.signals.specs.Sets.{setOf}
-use Rattle.peal.specs.Policies.{Rule, Policy, Expression, Exclusion, Condition, Book, noRule, noExclusion, policyAt, emptyPolicy, maskOf}
+use Rattle.peal.specs.Policies.{Rule, Policy, Expression, Exclusion, Condition, Book, policyAt, emptyPolicy, maskOf}
+use Rattle.peal.specs.Standins.{noRule, noExclusion}
 use Rattle.peal.specs.declared.Operator.{Operator}
 use Rattle.peal.proofs.MaskLaws.{mask-more}
 use Rattle.book.specs.Acceptance.{emptyBook, lastPolicy, withRule, withPolicies, withLast, withExclusion, withCondition, mentionsBelow}

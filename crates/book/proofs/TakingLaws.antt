@@ -6,7 +6,7 @@ use mathlib.Core.Option.{Option, none, some}
 use mathlib.Core.Path.{_≡_, sym, ap, subst, _∙_}
 use native.Mathlib.Omega.{arith}
 use lib.Dec.{leb}
-use lib.IntN.{ℤ, pos, negℤ}
+use lib.IntN.{ℤ}
 use lib.ListN.{length, length-append, length-set}
 use borrow.Author.Tests.{leb-true, lt-ltb, ltb-true}
 use Rattle.answers.specs.Answers.{Answer}
@@ -19,11 +19,11 @@ use Rattle.peal.specs.declared.Sense.{Sense}
 use Rattle.text.specs.Text.{Line}
 use Rattle.text.specs.Expressions.{expression}
 use Rattle.text.specs.Forms.{Form, oldZero, policy, rule, exclusion, condition, form}
-use Rattle.limits.specs.Limits.{lineFits}
-use Rattle.book.specs.Acceptance.{BookSoFar, noLine, lastPolicy, within, scoreInRange, mentionsBelow, inPlace, inCount, inRange, defaultOf, withRule, withPolicies, withLast, withExclusion, withCondition, bookWith, opensRules, oldAfter, accept}
+use Rattle.limits.specs.Limits.{lineFits, thresholdInRange}
+use Rattle.book.specs.Acceptance.{BookSoFar, noLine, lastPolicy, scoreInRange, mentionsBelow, inPlace, inCount, inRange, defaultOf, withRule, withPolicies, withLast, withExclusion, withCondition, bookWith, opensRules, oldAfter, accept}
 use Rattle.book.specs.Books.{acceptForm, readLine}
 use Rattle.book.specs.Cells.{PolicyCells, BookCells}
-use Rattle.book.specs.Ranges.{PolicyInRange, ExclusionInRange, PolicyKept, ExclusionsKept}
+use Rattle.book.specs.Ranges.{PolicyInRange, PolicyKept, ExclusionsKept}
 use Rattle.book.specs.Judged.{verdictMeaning, after, JudgedAt, Judged}
 use Rattle.book.specs.Taken.{soFarOf, Bounded, Holds, TakenAs}
 use Rattle.book.specs.declared.Reason.{Reason}
@@ -34,7 +34,7 @@ use Rattle.book.specs.declared.storing.SoFar.{SoFar}
 use Rattle.book.specs.declared.taking.Taken.{Taken}
 use Rattle.book.proofs.CellLaws.{book-exclusions}
 use Rattle.text.proofs.FormMentions.{FewMentions}
-use Rattle.book.proofs.RangeLaws.{Passed, passed, policy-in-range, rule-room, exclusion-in-range, accept-bounded}
+use Rattle.book.proofs.RangeLaws.{Passed, passed, policy-in-range, rule-room, Apart, apart-in-range, accept-bounded}
 
 -- ---- taken lines
 
@@ -162,9 +162,9 @@ module _ (so : BookSoFar) (a b : ℕ) (j : Judged so (exclusion a b) Fine) where
   unfolding inCount
   exclusion-room = ltb-true (length (so .book .exclusions)) 16 (fine-passed so (exclusion a b) j .count)
 
-  pub exclusion-fits : ExclusionInRange (record { first = a; second = b })
+  pub exclusion-fits : Apart a b
   unfolding inRange
-  exclusion-fits = exclusion-in-range a b (fine-passed so (exclusion a b) j .range)
+  exclusion-fits = apart-in-range a b (fine-passed so (exclusion a b) j .range)
 
 -- the cells after a fine line
 module _ (cells : List ℤ) (so : BookSoFar) where
@@ -199,7 +199,7 @@ pub fine-mentions : (so : BookSoFar) (c : Sense) (t : ℤ) (e : Expression) → 
 unfolding inRange
 fine-mentions so c t e b j =
     mentions-more (length (so .book .policies)) 16 e (b .range .policiesRoom)
-    (and-right (within (negℤ (pos 200000)) (pos 200000) t) (mentionsBelow (length (so .book .policies)) e) (fine-passed so (condition c t e) j .range))
+    (and-right (thresholdInRange t) (mentionsBelow (length (so .book .policies)) e) (fine-passed so (condition c t e) j .range))
 
 -- a signed number that was passed on
 pub rule-judged-at : (so : BookSoFar) (s : ℕ) (w : Verdict) (y z : ℤ) → y ≡ z → Judged so (rule s y) w → Judged so (rule s z) w

@@ -5,7 +5,8 @@
 ghost use mathlib.Core.Path.{_≡_};
 ghost use Prim.Native.Nat.{_<_};
 ghost use lib.ListN.{length, getD};
-ghost use Rattle.peal.specs.Policies.{Policy as PealPolicy, Condition as PealCondition, noRule, noExclusion, maskOf};
+ghost use Rattle.peal.specs.Policies.{Policy as PealPolicy, Condition as PealCondition, maskOf};
+ghost use Rattle.peal.specs.Standins.{noRule, noExclusion};
 ghost use Rattle.text.specs.Codes.{codesOf};
 ghost use Rattle.book.specs.Cells.{PolicyCells, ForExclusions, ConditionCells, storedPolicy};
 ghost use Rattle.book.specs.Ranges.{PolicyKept, ExclusionsKept, ConditionKept};

@@ -4,7 +4,7 @@
 ghost use mathlib.Core.Path.{_≡_};
 ghost use Prim.Native.Nat.{_+_, _-_, _*_, _^_, _≤_, _<_};
 ghost use lib.ListN.{length};
-ghost use Rattle.layout.specs.Records.{bit};
+ghost use Rattle.layout.specs.Records.{oneIf};
 ghost use Rattle.layout.specs.Meaning.{faultNumber, faultValue};
 ghost use Rattle.rod.specs.Reading.{rodAnswer};
 ghost use Rattle.rod.specs.Traversing.{traversed, answerCount, answersAfter};
@@ -90,7 +90,7 @@ pub extern "C" fn cerahupo_check(bytes: &[u8]) -> u64
 
 #[no_mangle]
 pub extern "C" fn cerahupo_decide(bytes: &[u8], condition: u32, set: u16) -> u64
-    ensures { λ r. ⌜ r ≡ packed bit (scoredAnswer (now (bytes .entry)) condition set) ⌝ }
+    ensures { λ r. ⌜ r ≡ packed oneIf (scoredAnswer (now (bytes .entry)) condition set) ⌝ }
 {
     let d = score::decide(bytes, condition, set);
     match d {
@@ -136,7 +136,7 @@ pub extern "C" fn cerahupo_compile(bytes: &[u8], condition: u32, words: &mut [u3
 
 #[no_mangle]
 pub extern "C" fn cerahupo_read(words: &[u32], set: u16) -> u64
-    ensures { λ r. ⌜ r ≡ packed bit (rodAnswer (now (words .entry)) set) ⌝ }
+    ensures { λ r. ⌜ r ≡ packed oneIf (rodAnswer (now (words .entry)) set) ⌝ }
 {
     let d = rod::decide(words, set);
     match d {

@@ -17,7 +17,8 @@ use Rattle.signals.specs.Sets.{isSet, inside, isPair}
 use Rattle.layout.specs.Records.{Record, records, words, Join, and, or, Kind, policy, line, exclusion, unknown, lineKind, joinKind, exclusionKind, policyKind, kindOf, isLine, kinds}
 use Rattle.layout.specs.Judgement.{ifAny, ifLine, nextNode, SoFar, noRecord, insidePolicy, keepsLayout, soFarAfter, judged, lengthSound, verdict}
 use Rattle.layout.specs.Nodes.{ListedNode, ListedTree, lineRecords, nodeRecords, exclusionRecords, listing, leadingLines, nodeThen, nodes, pairThen, excluded}
-use Rattle.layout.specs.WellFormed.{LinesFit, TreeFits, policyCount, ArePairs, PairsFit, WellFormed}
+use Rattle.layout.specs.WellFormed.{LinesFit, TreeFits, ArePairs, PairsFit, WellFormed}
+use Rattle.arith.specs.Leaves.{leafCount}
 use Rattle.layout.proofs.Soundness.{no-line, any-nodes, next-nodes, line-lines, next-lines}
 
 -- ---- what a test that holds says
@@ -342,17 +343,17 @@ AllFit (t ∷ ts) = TreeFits t × AllFit ts
 
 abbrev policiesIn : List ListedTree → ℕ
 policiesIn [] = 0
-policiesIn (t ∷ ts) = policiesIn ts + policyCount t
+policiesIn (t ∷ ts) = policiesIn ts + leafCount t
 
 -- a tree that fits, of at most 16 policies, with these nodes
 pub record TreeOf (ns : List ListedNode) : Type 0 where
   pub tree : ListedTree
   pub fits : TreeFits tree
-  pub atMost : policyCount tree ≤ 16
+  pub atMost : leafCount tree ≤ 16
   pub same : ns ≡ postfix tree
 
 grow : (ns : List ListedNode) (ts : List ListedTree) (v p : ℕ) → length ts ≡ v → policiesIn ts ≡ p → p ≤ 16 → AllFit ts → WellFormed v p ns → TreeOf (stacked ts ++ ns)
-unfolding postfix policyCount
+unfolding postfix leafCount
 grow [] [] v p el ep le g h = absurd (omega arith)
 grow [] (t ∷ []) v p el ep le g h = record { tree = t; fits = g .0; atMost = omega arith; same = append-nil (postfix t) }
 grow [] (t ∷ s ∷ ts) v p el ep le g h = absurd (omega arith)

@@ -17,9 +17,9 @@ use Rattle.signals.specs.Sets.{present}
 use Rattle.peal.specs.Policies.{Rule}
 use Rattle.peal.specs.Score.{presentRules}
 use Rattle.peal.specs.Ranking.{ranked}
-use Rattle.peal.specs.Lines.{setsInside, smallerSets, minimal, minimalSets}
-use Rattle.peal.specs.SetsOfRules.{SetInside, IsMinimal}
-use Rattle.peal.specs.Having.{has}
+use Rattle.peal.specs.Lines.{setsInside, smallerSets, minimal, minimalSets, has}
+use Rattle.peal.specs.SetsOfRules.{SetInside}
+use Rattle.peal.proofs.MinimalSets.{IsMinimal, inside-in, inside-out, smaller-in, smaller-out, minimal-out, minimal-in}
 use Rattle.peal.specs.Presence.{allPresent}
 use Rattle.peal.specs.SearchFindsLines.{RulesFit}
 use Rattle.peal.specs.MinimalSetsDecide.{AddingKeeps, MinimalSetsDecide}
@@ -27,8 +27,7 @@ use Rattle.peal.specs.OrderDoesNotMatter.{OrderDoesNotMatter}
 use Rattle.peal.specs.LinesDecide.{LinesDecide}
 use Rattle.peal.specs.declared.Operator.{Operator}
 use Rattle.peal.proofs.HavingLaws.{has-reordered}
-use Rattle.peal.proofs.KeptLaws.{has-kept}
-use Rattle.peal.proofs.MinimalSets.{inside-in, inside-out, smaller-in, smaller-out, minimal-out, minimal-in}
+use Rattle.peal.proofs.PersistLaws.{has-persists}
 use Rattle.peal.proofs.RankLaws.{ranked-reordered}
 use Rattle.peal.proofs.SearchLaws.{grown}
 use Rattle.peal.proofs.SingleLaws.{lines-minimal}
@@ -104,7 +103,7 @@ module _ (o : Operator) (t : ℤ) (rules : List Rule) (set : ℕ) where
 
   adding-keeps : RulesFit o rules → AddingKeeps (has o t) (presentRules set (ranked o rules))
   unfolding presentRules
-  adding-keeps fit Y s h = grown (has o t) (ranked o rules) (has-kept o t rules fit) [] s (keep-inside (λ r. present set (r .signal)) (ranked o rules)) h
+  adding-keeps fit Y s h = grown (has o t) (ranked o rules) (has-persists o t rules fit) [] s (keep-inside (λ r. present set (r .signal)) (ranked o rules)) h
 
 pub lines-decide : LinesDecide
 lines-decide o t rules set fit =

@@ -5,19 +5,19 @@ use mathlib.Core.List.{List, [], _∷_, _++_, map, map-append, Permᴰ·symm, Pe
 use mathlib.Core.Path.{_≡_, sym, ap, subst, _∙_}
 use native.Mathlib.Omega.{arith}
 use lib.IntN.{ℤ}
-use Rattle.arith.specs.Lists.{exists, Each}
+use Rattle.arith.specs.Lists.{exists}
+use Rattle.arith.specs.Members.{Each, Among}
 use Rattle.arith.proofs.EveryExists.{exists-same, exists-map, every-map}
-use Rattle.arith.proofs.DistinctLists.{distinct-reordered, distinct-inside, inside-map}
+use Rattle.arith.proofs.Distinct.{distinct-reordered, distinct-inside}
 use Rattle.arith.proofs.Members.{every-each, each-every}
 use Rattle.arith.proofs.Reordering.{each-reordered}
-use Rattle.arith.proofs.Sublists.{each-inside}
+use Rattle.arith.proofs.Sublists.{each-inside, inside-map}
 use Rattle.signals.specs.Sets.{present, inside, setOf}
 use Rattle.signals.proofs.SetOfLaws.{set-below, inside-set, overlap-set, inside-self}
 use Rattle.peal.specs.Policies.{Rule, maskOf}
 use Rattle.peal.specs.Ranking.{ranked}
-use Rattle.peal.specs.Lines.{lines}
-use Rattle.peal.specs.SetsOfRules.{SetInside, Among}
-use Rattle.peal.specs.Having.{has}
+use Rattle.peal.specs.Lines.{lines, has}
+use Rattle.peal.specs.SetsOfRules.{SetInside}
 use Rattle.peal.specs.Presence.{allPresent, somePresent}
 use Rattle.peal.specs.MasksDecide.{SignalsFit, MasksDecide}
 use Rattle.peal.specs.declared.Operator.{Operator}

@@ -7,7 +7,6 @@ use mathlib.Core.Path.{_≡_, refl, sym, ap, ap₂, _∙_}
 use native.Mathlib.Omega.{arith}
 use lib.Dec.{lit<}
 use lib.IntN.{ℤ, pos}
-use lib.Signed.{leZ, ltZ}
 use Rattle.arith.specs.Lists.{exists, keep, nonEmpty, subsets}
 use Rattle.arith.proofs.Tests.{clash, not-yes, or-cases}
 use Rattle.arith.proofs.Keep.{keep-all, keep-append}
@@ -16,11 +15,11 @@ use Rattle.arith.proofs.Order.{leZ-scale}
 use Rattle.arith.proofs.Subsets.{keep-empty, subsets-more}
 use Rattle.arith.proofs.Reordering.{among-reordered}
 use Rattle.peal.specs.Policies.{Rule}
-use Rattle.peal.specs.Score.{scaled, total, product, scaledProduct}
+use Rattle.peal.specs.Score.{scaled, total, scoreProduct, scaledProduct}
 use Rattle.peal.specs.Ranking.{ranked}
-use Rattle.peal.specs.Lines.{setsInside, smallerSets, minimal, minimalSets, singles, sumAbove, productAtMost, lines}
-use Rattle.peal.specs.SetsOfRules.{SetInside, Among}
-use Rattle.peal.specs.Having.{has}
+use Rattle.peal.specs.Lines.{setsInside, smallerSets, minimal, minimalSets, singles, scoreAbove, scoreAtMost, has, lines}
+use Rattle.peal.specs.SetsOfRules.{SetInside}
+use Rattle.arith.specs.Members.{Among}
 use Rattle.peal.specs.SearchFindsLines.{RulesFit}
 use Rattle.peal.specs.LinesAreSingle.{Single, LinesAreSingle}
 use Rattle.peal.specs.EachRuleIsALine.{EachRule, EachRuleIsALine}
@@ -28,7 +27,7 @@ use Rattle.peal.specs.declared.Operator.{Operator}
 use Rattle.peal.specs.declared.Operator.the-variants.{Min, Max, Sum, Mul}
 use Rattle.peal.proofs.MinimalSets.{minimal-out, minimal-same}
 use Rattle.peal.proofs.RankLaws.{ranked-reordered}
-use Rattle.peal.proofs.KeptLaws.{fits-reordered, fits-inside, has-all}
+use Rattle.peal.proofs.PersistLaws.{fits-reordered, fits-inside, has-all}
 
 module _ (test : Rule → Bool) where
   one-minimal : (r : Rule) → minimal (exists test) (r ∷ []) ≡ test r
@@ -82,13 +81,13 @@ pub lines-minimal : (op : Operator) (t : ℤ) (rules : List Rule) → lines op t
 unfolding lines has
 lines-minimal Sum t rules = refl
 lines-minimal Mul t rules = refl
-lines-minimal Max t rules = sym (minimal-singles (λ r. ltZ t (r .score)) (ranked Max rules))
-lines-minimal Min t rules = sym (minimal-singles (λ r. leZ (r .score) t) (ranked Min rules))
+lines-minimal Max t rules = sym (minimal-singles (scoreAbove t) (ranked Max rules))
+lines-minimal Min t rules = sym (minimal-singles (scoreAtMost t) (ranked Min rules))
 
 pub lines-are-single : LinesAreSingle
 unfolding lines
 lines-are-single t rules X =
-    (among-singles (λ r. ltZ t (r .score)) Max rules X, among-singles (λ r. leZ (r .score) t) Min rules X)
+    (among-singles (scoreAbove t) Max rules X, among-singles (scoreAtMost t) Min rules X)
 
 -- ---- where the empty set has the property
 
@@ -109,7 +108,7 @@ each-rule op t rules fit none =
         has-all op t X (fits-inside s (fits-reordered (Permᴰ·symm (ranked-reordered op rules)) fit)) none ∙ sym (some-exists X some)
 
 pub each-rule-is-a-line : EachRuleIsALine
-unfolding has sumAbove total productAtMost scaledProduct product scaled
+unfolding has total scaledProduct scoreProduct scaled
 each-rule-is-a-line =
     record {
       ofSum = λ t rules fit h. each-rule Sum t rules fit h;

@@ -7,8 +7,7 @@ use lib.IntN.{ℤ}
 use Rattle.arith.specs.Lists.{exists, nonEmpty}
 use Rattle.peal.specs.Policies.{Rule}
 use Rattle.peal.specs.Score.{presentRules}
-use Rattle.peal.specs.Lines.{lines}
-use Rattle.peal.specs.Having.{has}
+use Rattle.peal.specs.Lines.{lines, has}
 use Rattle.peal.specs.Presence.{allPresent}
 use Rattle.peal.specs.SearchFindsLines.{RulesFit}
 use Rattle.peal.specs.declared.Operator.{Operator}

@@ -12,7 +12,7 @@ use Rattle.signals.specs.Sets.{inside, overlap}
 use Rattle.signals.proofs.SetOfLaws.{inside-self, inside-then, overlap-then, inside-le}
 use Rattle.layout.specs.Nodes.{ListedPolicy}
 use Rattle.rod.specs.Reading.{someLine, policyValue}
-use Rattle.peal.specs.SetsOfRules.{Among}
+use Rattle.arith.specs.Members.{Among}
 
 -- what is known of the lines of a compiled policy: none lies inside another
 pub record Incomparable (p : ListedPolicy) : Type 0 where

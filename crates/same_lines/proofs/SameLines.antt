@@ -22,8 +22,8 @@ use Rattle.checks.specs.Meaning.{comparisonMeaning}
 use Rattle.checks.specs.declared.ComparisonAnswer.{ComparisonAnswer}
 use Rattle.checks.specs.declared.ComparisonAnswer.the-variants.{Alike, FirstYes, SecondYes, FirstDeclined, SecondDeclined}
 use Rattle.checks.proofs.Answers.{comparison-tells, alike-tells}
-use Rattle.peal.specs.SetsOfRules.{Among}
-use Rattle.peal.proofs.OrderLaws.{once-reordered}
+use Rattle.arith.specs.Members.{Among}
+use Rattle.arith.proofs.Distinct.{same-members}
 use Rattle.same_lines.specs.SameLines.{SameKind, SameKindAndMask, SamePlainKind, NoExclusions, TwoPolicies, SameLines, OfOneAlone, LowestOfOneAlone, AlikeOn, DecideAlike, LowestApart, Compared, otherOf, AloneOf, NamesLine, LinesTell, SameLinesSamePolicy}
 use Rattle.same_lines.proofs.Lines.{Incomparable, byLines, Bound, bound-back, bound-by-mask, bound-by-lines, line-there, line-here}
 use Rattle.same_lines.proofs.Compiled.{Known, known}
@@ -102,7 +102,7 @@ module _ (one two : List ℕ) (p q : ListedPolicy) (a : Known one p) (b : Known 
 
   then-lines : ((set : ℕ) → set ≤ 65535 → SameValue set) → SameLines p q
   then-lines same =
-      once-reordered (p .lines) (q .lines) (a .once) (b .once) (λ l. (
+      same-members (p .lines) (q .lines) (a .once) (b .once) (λ l. (
         λ m. line-of-both l (λ i k. same i (omega (arith, a .incomparable .small l m))) .0 m,
         λ m. line-of-both l (λ i k. same i (omega (arith, b .incomparable .small l m))) .1 m,
       ))

@@ -9,9 +9,8 @@ use Rattle.arith.specs.Lists.{exists}
 use Rattle.arith.proofs.Order.{ltZ-not, leZ-scale, ltZ-scale}
 use Rattle.peal.specs.Policies.{Rule, Policy, smaller, larger}
 use Rattle.peal.specs.Score.{scaled, total, ofAll, applied, scoreOf, meets}
-use Rattle.peal.specs.Lines.{sumAbove, productAtMost}
+use Rattle.peal.specs.Lines.{has}
 use Rattle.translation.specs.Translation.{quiet, turned}
-use Rattle.peal.specs.Having.{has}
 use Rattle.translation.specs.MeetingIsHaving.{turnedOver, MeetingIsHaving}
 use Rattle.translation.specs.QuietIsMeeting.{QuietIsMeeting}
 use Rattle.peal.specs.declared.Operator.{Operator}
@@ -34,11 +33,11 @@ at-most-scaled a b = leZ-scale a b 100000000000000 (lit< tt)
 
 module _ (t : ℤ) where
   sum-has : (r : Rule) (rs : List Rule) → meets Above t (applied Sum r rs) ≡ has Sum t (r ∷ rs)
-  unfolding meets applied has sumAbove
+  unfolding meets applied has
   sum-has r rs = above-scaled t (total (r ∷ rs))
 
   mul-has : (r : Rule) (rs : List Rule) → meets AtMost t (applied Mul r rs) ≡ has Mul t (r ∷ rs)
-  unfolding meets applied has productAtMost
+  unfolding meets applied has
   mul-has r rs = refl
 
   largest-above : (r : Rule) (rs : List Rule) → ltZ t (ofAll larger r rs) ≡ exists (λ (q : Rule). ltZ t (q .score)) (r ∷ rs)

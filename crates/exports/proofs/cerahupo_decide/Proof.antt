@@ -2,7 +2,7 @@
 use mathlib.Core.Path.{_≡_, sym, ap, _∙_}
 use native.Mathlib.Omega.{arith}
 use denote.Ref.{now}
-use Rattle.layout.specs.Records.{bit}
+use Rattle.layout.specs.Records.{oneIf}
 use Rattle.score.specs.Decisions.{scoredAnswer}
 use Rattle.score.specs.Meaning.{scoreMeaning}
 use Rattle.score.specs.declared.Decision.{Decision}
@@ -46,20 +46,20 @@ refused-requires : tie.Need-refused-requires
 refused-requires c κs = search needs
 
 returns : tie.Need-returns
-unfolding packed bit
-returns c = let a = c .before in c .accepted .ensures ∙ ap (packed bit) (answer (a .before .before) _ (a .enum-told .given .1))
+unfolding packed oneIf
+returns c = let a = c .before in c .accepted .ensures ∙ ap (packed oneIf) (answer (a .before .before) _ (a .enum-told .given .1))
 
 returns-2 : tie.Need-returns-2
-unfolding packed bit
-returns-2 c = let a = c .before in c .accepted2 .ensures ∙ ap (packed bit) (answer (a .before .before) _ (a .enum-told2 .given .1))
+unfolding packed oneIf
+returns-2 c = let a = c .before in c .accepted2 .ensures ∙ ap (packed oneIf) (answer (a .before .before) _ (a .enum-told2 .given .1))
 
 returns-3 : tie.Need-returns-3
 unfolding packed
-returns-3 c = let a = c .before .before in c .refused-book .ensures ∙ ap (packed bit) (answer (a .before .before) _ (a .d .given .1))
+returns-3 c = let a = c .before .before in c .refused-book .ensures ∙ ap (packed oneIf) (answer (a .before .before) _ (a .d .given .1))
 
 returns-4 : tie.Need-returns-4
 unfolding packed
-returns-4 c = let a = c .before in c .refused .ensures ∙ ap (packed bit) (answer (a .before .before) _ (a .enum-told3 .given .1))
+returns-4 c = let a = c .before in c .refused .ensures ∙ ap (packed oneIf) (answer (a .before .before) _ (a .enum-told3 .given .1))
 
 pub cerahupo-decide-spec : {M : Type 1} → statement M
 cerahupo-decide-spec =

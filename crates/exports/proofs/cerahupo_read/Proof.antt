@@ -2,7 +2,7 @@
 use mathlib.Core.Path.{_≡_, sym, ap, _∙_}
 use native.Mathlib.Omega.{arith}
 use denote.Ref.{now}
-use Rattle.layout.specs.Records.{bit}
+use Rattle.layout.specs.Records.{oneIf}
 use Rattle.rod.specs.Reading.{rodAnswer}
 use Rattle.rod.specs.Meaning.{rodMeaning}
 use Rattle.rod.specs.declared.Decision.{Decision}
@@ -39,16 +39,16 @@ refused-listing-requires : tie.Need-refused-listing-requires
 refused-listing-requires c κs = let d = c .before .before .before in omega (arith, d .before .before .good, in-table (rod-reading _ _) (answer d _ (c .before .d .given .1)))
 
 returns : tie.Need-returns
-unfolding packed bit
-returns c = let a = c .before in c .accepted .ensures ∙ ap (packed bit) (answer (a .before .before) _ (a .enum-told .given .1))
+unfolding packed oneIf
+returns c = let a = c .before in c .accepted .ensures ∙ ap (packed oneIf) (answer (a .before .before) _ (a .enum-told .given .1))
 
 returns-2 : tie.Need-returns-2
-unfolding packed bit
-returns-2 c = let a = c .before in c .accepted2 .ensures ∙ ap (packed bit) (answer (a .before .before) _ (a .enum-told2 .given .1))
+unfolding packed oneIf
+returns-2 c = let a = c .before in c .accepted2 .ensures ∙ ap (packed oneIf) (answer (a .before .before) _ (a .enum-told2 .given .1))
 
 returns-3 : tie.Need-returns-3
 unfolding packed
-returns-3 c = let a = c .before .before in c .refused-listing .ensures ∙ ap (packed bit) (answer (a .before .before) _ (a .d .given .1))
+returns-3 c = let a = c .before .before in c .refused-listing .ensures ∙ ap (packed oneIf) (answer (a .before .before) _ (a .d .given .1))
 
 pub cerahupo-read-spec : {M : Type 1} → statement M
 cerahupo-read-spec =

@@ -1,44 +1,44 @@
 -- `layout::kind_of`: each return by the number that the test found, the last by all that it is not.
 use mathlib.Core.Path.{ap, sym}
 use borrow.Author.Tests.{ne-eqb}
-use Rattle.layout.specs.Records.{kindOf, lineKind, joinKind, policyKind, exclusionKind, bit}
+use Rattle.layout.specs.Records.{kindOf, lineKind, joinKind, policyKind, exclusionKind, oneIf}
 use Rattle.layout.proofs.kind_of.Statement.{statement}
 use Rattle.layout.proofs.kind_of.Tie as tie
 
 returns : tie.Need-returns
-unfolding kindOf lineKind joinKind policyKind exclusionKind bit
+unfolding kindOf lineKind joinKind policyKind exclusionKind oneIf
 returns c = ap kindOf (sym (c .if1 .taken))
 
 returns-2 : tie.Need-returns-2
-unfolding kindOf lineKind joinKind policyKind exclusionKind bit
+unfolding kindOf lineKind joinKind policyKind exclusionKind oneIf
 returns-2 c = ap kindOf (sym (c .if2 .taken))
 
 returns-3 : tie.Need-returns-3
-unfolding kindOf lineKind joinKind policyKind exclusionKind bit
+unfolding kindOf lineKind joinKind policyKind exclusionKind oneIf
 returns-3 c = ap kindOf (sym (c .if3 .taken))
 
 returns-4 : tie.Need-returns-4
-unfolding kindOf lineKind joinKind policyKind exclusionKind bit
+unfolding kindOf lineKind joinKind policyKind exclusionKind oneIf
 returns-4 c = ap kindOf (sym (c .if4 .taken))
 
 returns-5 : tie.Need-returns-5
-unfolding kindOf lineKind joinKind policyKind exclusionKind bit
+unfolding kindOf lineKind joinKind policyKind exclusionKind oneIf
 returns-5 c = ap kindOf (sym (c .if5 .taken))
 
 returns-6 : tie.Need-returns-6
-unfolding kindOf lineKind joinKind policyKind exclusionKind bit
+unfolding kindOf lineKind joinKind policyKind exclusionKind oneIf
 returns-6 c = ap kindOf (sym (c .if6 .taken))
 
 returns-7 : tie.Need-returns-7
-unfolding kindOf lineKind joinKind policyKind exclusionKind bit
+unfolding kindOf lineKind joinKind policyKind exclusionKind oneIf
 returns-7 c = ap kindOf (sym (c .if7 .taken))
 
 returns-8 : tie.Need-returns-8
-unfolding kindOf lineKind joinKind policyKind exclusionKind bit
+unfolding kindOf lineKind joinKind policyKind exclusionKind oneIf
 returns-8 c = ap kindOf (sym (c .if8 .taken))
 
 returns-9 : tie.Need-returns-9
-unfolding kindOf lineKind joinKind policyKind exclusionKind bit
+unfolding kindOf lineKind joinKind policyKind exclusionKind oneIf
 returns-9 c =
     let g = c .before in
     let f = g .before in

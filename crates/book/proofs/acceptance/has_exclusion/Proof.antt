@@ -10,7 +10,8 @@ use lib.Dec.{eqb}
 use lib.ListN.{length, drop, getD}
 use Rattle.arith.specs.Lists.{exists}
 use Rattle.arith.proofs.EveryExists.{exists-here, exists-later, exists-left}
-use Rattle.peal.specs.Policies.{Exclusion, noExclusion}
+use Rattle.peal.specs.Policies.{Exclusion}
+use Rattle.peal.specs.Standins.{noExclusion}
 use Rattle.book.specs.Acceptance.{excludes}
 use Rattle.book.specs.Cells.{ExclusionCells}
 use Rattle.book.proofs.JudgeLaws.{by-tests, by-first-test}

@@ -41,7 +41,7 @@ small : (c : tie.After-bit) → c .before .mask-at .result + c .bit .result < 2 
 small c =
     let s = c .before .before .before .before .before in
     let fits : Fits w16 (c .before .mask-at .result) = search needs in
-    omega (arith, fits .fits, c .bit .ensures, set-below 16 (s .args .signal ∷ []) (s .pre .2, tt) (refl, tt))
+    omega (arith, fits .fits, c .bit .ensures, set-below 16 (s .args .signal ∷ []) (s .pre .2, tt) (tt, tt))
 
 -- what is written, as it is read back
 abbrev signal : tie.After-all → ℤ
