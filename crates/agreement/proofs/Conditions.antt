@@ -6,11 +6,12 @@ use mathlib.Core.Path.{_≡_, refl, sym, ap, ap₂, _∙_}
 use native.Mathlib.Omega.{arith}
 use lib.IntN.{ℤ}
 use Rattle.answers.specs.Answers.{result}
-use Rattle.arith.specs.Lists.{Each}
-use Rattle.arith.specs.Trees.{leaf, join, mapTree, treeValue, leafCount}
+use Rattle.arith.specs.Members.{Each}
+use Rattle.arith.specs.Trees.{leaf, join, mapTree, treeValue}
+use Rattle.arith.specs.Leaves.{leafCount, leafCount}
 use Rattle.arith.proofs.Each.{each-default}
 use Rattle.layout.specs.Nodes.{ListedPolicy, ListedTree}
-use Rattle.layout.specs.WellFormed.{PolicyFits, TreeFits, policyCount}
+use Rattle.layout.specs.WellFormed.{PolicyFits, TreeFits}
 use Rattle.rod.specs.Reading.{policyValue, joined}
 use Rattle.rod.proofs.Trees.{rod-tree}
 use Rattle.peal.specs.Policies.{Policy, MinMax, smaller, larger, Expression, Condition, Book, emptyPolicy, policyAt}
@@ -20,7 +21,7 @@ use Rattle.peal.specs.declared.Sense.{Sense}
 use Rattle.peal.specs.declared.Sense.the-variants.{Above, AtMost}
 use Rattle.translation.proofs.ListedFits.{listed-fits}
 use Rattle.peal.proofs.TwoLaws.{larger-above, smaller-above, larger-at-most, smaller-at-most}
-use Rattle.book.specs.Acceptance.{within}
+use Rattle.limits.specs.Limits.{within, defaultInRange}
 use Rattle.book.specs.Ranges.{PolicyInRange}
 use Rattle.agreement.specs.ConditionAgreement.{ConditionAgreement}
 use Rattle.agreement.proofs.Policies.{signals-fit, policy-agreement}
@@ -36,7 +37,7 @@ meets-two AtMost t larger a b = larger-at-most (scaled t) a b
 
 -- a policy that is not there is in range too
 empty-in-range : PolicyInRange emptyPolicy
-unfolding emptyPolicy within
+unfolding emptyPolicy defaultInRange within
 empty-in-range = record { default = refl; signals = tt; distinct = tt; scores = tt; room = λ e. omega arith }
 
 pub policy-in-range : (ps : List Policy) → Each PolicyInRange ps → (n : ℕ) → PolicyInRange (policyAt ps n)
@@ -45,8 +46,8 @@ policy-in-range ps ranges n = each-default PolicyInRange ps n emptyPolicy ranges
 
 -- the tree of an expression, whatever record stands for a mention
 module _ (s : Sense) (recordOf : ℕ → ListedPolicy) where
-  pub tree-policies : (e : Expression) → policyCount (mapTree (joinOf s) recordOf e) ≡ leafCount e
-  unfolding mapTree policyCount leafCount
+  pub tree-policies : (e : Expression) → leafCount (mapTree (joinOf s) recordOf e) ≡ leafCount e
+  unfolding mapTree leafCount
   tree-policies (leaf n) = refl
   tree-policies (join m a b) = ap₂ (λ (x y : ℕ). x + y) (tree-policies a) (tree-policies b)
 
@@ -76,7 +77,7 @@ module _ (ps : List Policy) (s : Sense) (t : ℤ) where
 -- ---- the condition
 
 module _ (b : Book) (c : Condition) where
-  pub condition-policies : leafCount (c .expression) ≤ 16 → policyCount (translated (b .policies) c) ≤ 16
+  pub condition-policies : leafCount (c .expression) ≤ 16 → leafCount (translated (b .policies) c) ≤ 16
   unfolding translated
   condition-policies room = omega (arith, tree-policies (c .sense) (recordAt (b .policies) (c .sense) (c .threshold)) (c .expression))
 

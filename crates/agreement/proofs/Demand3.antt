@@ -7,7 +7,7 @@ use lib.ListN.{length}
 use borrow.Author.Tests.{le-leb}
 use Rattle.answers.specs.Answers.{Answer, result, refused, onResult}
 use Rattle.answers.proofs.Results.{no-refusal, result-is}
-use Rattle.arith.specs.Lists.{Each}
+use Rattle.arith.specs.Members.{Each}
 use Rattle.arith.specs.Trees.{leaf, join, postfix, mapTree}
 use Rattle.arith.proofs.Tests.{clash}
 use Rattle.layout.specs.Records.{words, records}
@@ -20,7 +20,6 @@ use Rattle.rod.specs.declared.Decision.the-variants.{Yes as RodYes, No as RodNo
 use Rattle.peal.specs.Policies.{Policy, Expression, Condition, policyAt}
 use Rattle.peal.specs.Score.{decision}
 use Rattle.translation.specs.Translation.{listed, translated, pairMask, listingRecords}
-use Rattle.book.specs.Books.{read, asked}
 use Rattle.book.specs.Ranges.{PolicyInRange}
 use Rattle.book.proofs.AskedLaws.{asked-in-range}
 use Rattle.score.specs.Meaning.{scoreMeaning}
@@ -31,7 +30,8 @@ use Rattle.compiler.specs.Meaning.{compiledMeaning}
 use Rattle.compiler.specs.declared.Compiled.{Compiled}
 use Rattle.compiler.specs.declared.Compiled.the-variants.{Records, Declined as CompileDeclined, NoRoom}
 use Rattle.agreement.specs.CompiledReading.{compiledReading}
-use Rattle.agreement.specs.Demand3.{CompiledAgreement, ReadingAgreement, SaySame, bothYes, bothNo, StandsFor, MinimalListing, ListingFits, Demand3}
+use Rattle.agreement.specs.CompiledAgreement.{CompiledAgreement, ReadingAgreement}
+use Rattle.agreement.specs.Demand3.{SaySame, bothYes, bothNo, StandsFor, MinimalListing, ListingFits, Demand3}
 use Rattle.agreement.proofs.Policies.{signals-fit}
 use Rattle.agreement.proofs.Conditions.{policy-in-range, tree}
 use Rattle.agreement.proofs.Books.{scored-result, book-agreement}
@@ -106,9 +106,9 @@ minimal-listing bytes number lent n e =
 -- a listing that fits is compiled: as many records are returned as it has
 compiles : (bytes : List ℕ) (number : ℕ) (lent : List ℕ) (f : ListingFits bytes number lent)
     → returned (compiled bytes number (length lent)) ≡ result (length (listingRecords (f .book) (f .condition)))
-unfolding compiled asked fitting returned
+unfolding compiled fitting returned
 compiles bytes number lent f =
-    rw (f .accepted, f .inBook, le-leb (length (words (listingRecords (f .book) (f .condition)))) (length lent) (f .fits)) refl
+    rw (f .ofBook, le-leb (length (words (listingRecords (f .book) (f .condition)))) (length lent) (f .fits)) refl
 
 -- the answer that means so many records
 records-returned : (answer : Compiled) (n : ℕ) → compiledMeaning answer ≡ result n → answer ≡ Records n

@@ -9,7 +9,7 @@ use Rattle.answers.specs.Answers.{Answer, result, refused, onResult}
 use Rattle.layout.specs.Records.{words}
 use Rattle.rod.specs.Computing.{rodComputes}
 use Rattle.peal.specs.Policies.{Condition, Book}
-use Rattle.peal.specs.Having.{has}
+use Rattle.peal.specs.Lines.{has}
 use Rattle.text.specs.Text.{bytes}
 use Rattle.book.specs.Books.{asked}
 use Rattle.score.specs.Decisions.{scoredAnswer}

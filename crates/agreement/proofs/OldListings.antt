@@ -10,8 +10,9 @@ use lib.ListN.{length}
 use borrow.Author.Tests.{lt-ltb}
 use Rattle.answers.specs.Answers.{result}
 use Rattle.arith.specs.Lists.{every, keep, nonEmpty, subsets}
-use Rattle.arith.specs.Trees.{leaf, join, mapTree, treeValue, leafCount}
-use Rattle.arith.proofs.AnyEvery.{every-append}
+use Rattle.arith.specs.Trees.{leaf, join, mapTree, treeValue}
+use Rattle.arith.specs.Leaves.{leafCount}
+use Rattle.arith.proofs.EveryExists.{every-append}
 use Rattle.arith.proofs.Keep.{keep-append, keep-same}
 use Rattle.arith.proofs.Members.{keep-none}
 use Rattle.arith.proofs.Sublists.{keep-inside}
@@ -26,13 +27,12 @@ use Rattle.rod.proofs.Trees.{rod-tree}
 use Rattle.peal.specs.Policies.{Rule, Policy, Expression, Condition, Book, policyAt, maskOf}
 use Rattle.peal.specs.Score.{presentRules}
 use Rattle.peal.specs.Ranking.{ranked}
-use Rattle.peal.specs.Lines.{setsInside, smallerSets, minimal, minimalSets, lines}
+use Rattle.peal.specs.Lines.{setsInside, smallerSets, minimal, minimalSets, lines, has}
 use Rattle.translation.specs.Translation.{joinOf, quiet, turned, listed, translated, pairMask, listingRecords}
-use Rattle.peal.specs.Having.{has}
 use Rattle.peal.specs.Presence.{allPresent}
 use Rattle.peal.specs.declared.Operator.{Operator}
 use Rattle.peal.specs.declared.Sense.{Sense}
-use Rattle.peal.proofs.KeptLaws.{fits-inside, has-all}
+use Rattle.peal.proofs.PersistLaws.{fits-inside, has-all}
 use Rattle.peal.proofs.MaskLaws.{masks-decide}
 use Rattle.translation.proofs.ListedFits.{listed-fits}
 use Rattle.peal.proofs.MinimalSets.{inside-out}

@@ -5,14 +5,14 @@ use mathlib.Core.List.{List, [], _∷_}
 use mathlib.Core.Path.{_≡_, refl, sym, ap, _∙_}
 use lib.IntN.{ℤ}
 use Rattle.arith.specs.Lists.{nonEmpty}
-use Rattle.arith.proofs.AnyEvery.{any-kept}
+use Rattle.arith.proofs.EveryExists.{exists-kept}
 use Rattle.arith.proofs.Tests.{clash}
 use Rattle.signals.specs.Sets.{present, overlap}
 use Rattle.rod.specs.Reading.{someLine, policyValue}
 use Rattle.peal.specs.Policies.{Rule, Policy, maskOf}
 use Rattle.peal.specs.Score.{presentRules, scoreOf, policyScore, meets}
 use Rattle.translation.specs.Translation.{quiet, turned, listed}
-use Rattle.peal.specs.Having.{has}
+use Rattle.peal.specs.Lines.{has}
 use Rattle.peal.specs.Presence.{somePresent}
 use Rattle.translation.specs.MeetingIsHaving.{turnedOver}
 use Rattle.peal.specs.SearchFindsLines.{RulesFit}
@@ -39,7 +39,7 @@ module _ (p : Policy) (s : Sense) (t : ℤ) (set : ℕ) (h : PolicyInRange p) wh
   -- the mask shares a signal with the set exactly if some rule is present
   pub shared : overlap (maskOf (p .rules)) set ≡ nonEmpty (presentRules set (p .rules))
   unfolding presentRules somePresent
-  shared = masks-decide (p .rules) set (signals-fit p h) .1 ∙ any-kept (λ r. present set (r .signal)) (p .rules)
+  shared = masks-decide (p .rules) set (signals-fit p h) .1 ∙ exists-kept (λ r. present set (r .signal)) (p .rules)
 
   -- some line lies inside the set exactly if there are present rules and they have the property
   pub line-inside : someLine (listed s t p .lines) set ≡ (nonEmpty (presentRules set (p .rules)) && has (p .operator) t (presentRules set (p .rules)))

@@ -7,7 +7,7 @@ use lib.ListN.{length}
 use Rattle.answers.specs.Answers.{result}
 use Rattle.answers.proofs.Results.{no-refusal, result-is, gone-on}
 use Rattle.arith.proofs.Tests.{clash}
-use Rattle.layout.specs.Records.{bit}
+use Rattle.layout.specs.Records.{oneIf}
 use Rattle.layout.specs.Judgement.{verdict}
 use Rattle.rod.specs.Reading.{says, rodAnswer}
 use Rattle.rod.specs.Traversing.{answersTo}
@@ -22,8 +22,8 @@ use Rattle.score.specs.declared.Decision.the-variants.{Yes as LoggerYes, No as 
 use Rattle.agreement.specs.Demand3.{WrittenFor, oneYes, zeroNo, AsLogger, TraverseSays}
 
 -- the bit of an answer is what is written for a logger that gives this answer
-written-for : (b : Bool) (logger : LoggerDecision) → scoreMeaning logger ≡ result b → WrittenFor (bit b) logger
-unfolding bit
+written-for : (b : Bool) (logger : LoggerDecision) → scoreMeaning logger ≡ result b → WrittenFor (oneIf b) logger
+unfolding oneIf
 written-for true LoggerYes l = oneYes
 written-for false LoggerNo l = zeroNo
 written-for true LoggerNo l = clash refl (sym (result-is l))

@@ -2,7 +2,7 @@
 use Prim.Native.Nat.{ℕ, _≤_}
 use mathlib.Core.Path.{_≡_}
 use Rattle.answers.specs.Answers.{result}
-use Rattle.arith.specs.Trees.{leafCount}
+use Rattle.arith.specs.Leaves.{leafCount}
 use Rattle.layout.specs.Records.{words}
 use Rattle.rod.specs.Reading.{rodAnswer}
 use Rattle.peal.specs.Policies.{Condition, Book}

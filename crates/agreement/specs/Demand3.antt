@@ -1,13 +1,13 @@
 -- Claimed: demand 3, of the calls as they run. Proved in proofs/Demand3.antt.
 use Prim.Native.Nat.{ℕ, _≤_, _<_}
-use mathlib.Core.Bool.{Bool}
 use mathlib.Core.List.{List, map, Forall₂}
 use mathlib.Core.Logic.{_↔_}
 use mathlib.Core.Path.{_≡_}
 use lib.IntN.{ℤ}
 use lib.ListN.{length}
+use Rattle.arith.specs.Members.{Among, Distinct}
 use Rattle.arith.specs.Trees.{Node, value, joining, postfix}
-use Rattle.answers.specs.Answers.{result, onResult}
+use Rattle.answers.specs.Answers.{result}
 use Rattle.layout.specs.Records.{words, records}
 use Rattle.layout.specs.Nodes.{ListedNode, nodes, excluded}
 use Rattle.rod.specs.Reading.{rodAnswer}
@@ -16,29 +16,24 @@ use Rattle.rod.specs.declared.Decision.{Decision as RodDecision}
 use Rattle.rod.specs.declared.Decision.the-variants.{Yes as RodYes, No as RodNo}
 use Rattle.rod.specs.declared.Traversed.{Traversed}
 use Rattle.rod.specs.declared.Traversed.the-variants.{Answered}
-use Rattle.peal.specs.Policies.{Rule, Policy, MinMax, Condition, Book, policyAt, maskOf}
-use Rattle.peal.specs.SetsOfRules.{SetInside, IsMinimal, Among, InOrder}
-use Rattle.peal.specs.Having.{has}
+use Rattle.peal.specs.Policies.{Policy, MinMax, Condition, Book, policyAt, maskOf}
+use Rattle.peal.specs.Lines.{minimalSets, has}
 use Rattle.translation.specs.Translation.{joinOf, pairMask, listingRecords}
-use Rattle.book.specs.Books.{read, conditionAt, asked}
+use Rattle.book.specs.Books.{asked}
 use Rattle.score.specs.Decisions.{scoredAnswer}
 use Rattle.score.specs.Meaning.{scoreMeaning}
 use Rattle.score.specs.declared.Decision.{Decision as LoggerDecision}
 use Rattle.score.specs.declared.Decision.the-variants.{Yes as LoggerYes, No as LoggerNo}
-use Rattle.compiler.specs.Compiling.{compiled, returned, leftBy, compiledListing}
+use Rattle.compiler.specs.Compiling.{compiledListing}
 use Rattle.compiler.specs.Meaning.{CompilingRan}
 use Rattle.compiler.specs.declared.Compiled.{Compiled}
 use Rattle.compiler.specs.declared.Compiled.the-variants.{Records}
-use Rattle.agreement.specs.CompiledReading.{compiledReading}
-
--- ---- whose listing fits
 
 -- an accepted book, a condition in it, and lent words that its listing fits
 pub record ListingFits (bytes : List ℕ) (number : ℕ) (lent : List ℕ) : Type 0 where
   pub book : Book
   pub condition : Condition
-  pub accepted : read bytes ≡ result book
-  pub inBook : conditionAt (book .conditions) number ≡ result condition
+  pub ofBook : asked bytes number ≡ result (book, condition)
   pub fits : length (words (listingRecords book condition)) ≤ length lent
 
 -- ---- the calls, each by its promise about what it returned: of compiling `CompilingRan`, of a traverse `TraverseRan`
@@ -67,20 +62,11 @@ pub record TraverseSays (bytes : List ℕ) (number : ℕ) (sets : List ℕ) (ret
   pub all : returned ≡ Answered (length sets)
   pub each : Forall₂ (AsLogger bytes number) sets left
 
--- ---- the lines
-
--- the mask of a minimal non-empty set of the policy's rules: in sum one whose sum exceeds T, in mul one whose product in units is at most T divided
--- by 100; in max and min a single rule with V above T, or at most T
-pub record MinimalMask (p : Policy) (t : ℤ) (mask : ℕ) : Type 0 where
-  pub rules : List Rule
-  pub ofPolicy : SetInside rules (p .rules)
-  pub minimal : IsMinimal (has (p .operator) t) rules
-  pub same : mask ≡ maskOf rules
-
--- the lines are exactly the minimal non-empty sets, each once
+-- the lines are exactly the masks of the policy's minimal non-empty sets, each once: in sum of those whose sum exceeds T, in mul whose product in
+-- units is at most T divided by 100; in max and min of the single rules with V above T, or at most T
 pub record MinimalMasks (p : Policy) (t : ℤ) (lines : List ℕ) : Type 0 where
-  pub exactly : (line : ℕ) → Among line lines ↔ MinimalMask p t line
-  pub once : InOrder (λ (line later : ℕ). line ≡ later → ⊥) lines
+  pub exactly : (line : ℕ) → Among line lines ↔ Among line (map maskOf (minimalSets (has (p .operator) t) (p .rules)))
+  pub once : Distinct lines
   -- so each demands a signal
   pub demands : (line : ℕ) → Among line lines → 0 < line
 
@@ -100,8 +86,6 @@ pub record MinimalListing (bytes : List ℕ) (number : ℕ) (listing : List ℕ)
   pub pairs : excluded (records listing) ≡ map pairMask (book .exclusions)
   pub oneByOne : Forall₂ (StandsFor (book .policies) condition) (postfix (condition .expression)) (nodes (records listing))
 
--- ---- the demand
-
 -- compiling returned records, not a refusal; on the compiled listing, the first words as compiling left them, rod and logger say the
 -- same of every signal set, one by one or in a traverse with as many answers as sets; and its lines are the minimal non-empty sets
 pub record Agreed (bytes : List ℕ) (number : ℕ) (left : List ℕ) (answer : Compiled) : Type 0 where
@@ -118,19 +102,3 @@ abbrev pub Demand3 : Type 0
 Demand3 =
     (bytes : List ℕ) (number : ℕ) (lent left : List ℕ) (answer : Compiled)
     → ListingFits bytes number lent → CompilingRan bytes number lent left answer → Agreed bytes number left answer
-
--- ---- its agreement by the definitions alone
-
--- where compiling returns n records, the rod's answer on the compiled listing and the logger's on the book are one yes or no
-abbrev pub CompiledAgreement : Type 0
-CompiledAgreement =
-    (bytes : List ℕ) (number set n : ℕ) (lent : List ℕ) → returned (compiled bytes number (length lent)) ≡ result n
-    → (yes : Bool)
-    × (rodAnswer (compiledListing n (leftBy bytes number lent)) set ≡ result yes)
-    × (scoredAnswer bytes number set ≡ result yes)
-
--- so `agreement::compile_and_read` gives compiling's refusal, or the logger's answer
-abbrev pub ReadingAgreement : Type 0
-ReadingAgreement =
-    (bytes : List ℕ) (number set : ℕ) (lent : List ℕ)
-    → compiledReading bytes number set lent ≡ onResult (returned (compiled bytes number (length lent))) (λ n. scoredAnswer bytes number set)

@@ -5,5 +5,6 @@ pub mod BookAgreement
 pub mod CompiledReading
 pub mod Meaning
 pub mod Demand3
+pub mod CompiledAgreement
 pub mod OldListings
 pub mod Both

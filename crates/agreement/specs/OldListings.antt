@@ -14,9 +14,8 @@ use Rattle.layout.specs.Nodes.{ListedPolicy, listing}
 use Rattle.rod.specs.Reading.{rodAnswer}
 use Rattle.peal.specs.Policies.{Rule, Policy, Condition, Book, policyAt, maskOf}
 use Rattle.peal.specs.Ranking.{ranked}
-use Rattle.peal.specs.Lines.{lines}
+use Rattle.peal.specs.Lines.{lines, has}
 use Rattle.translation.specs.Translation.{joinOf, quiet, turned, pairMask, listingRecords}
-use Rattle.peal.specs.Having.{has}
 use Rattle.peal.specs.declared.Operator.{Operator}
 use Rattle.peal.specs.declared.Sense.{Sense}
 use Rattle.book.specs.Books.{asked}

@@ -7,9 +7,11 @@ use mathlib.Core.Path.{_≡_, refl, sym, ap, ap₂, subst, _∙_}
 use native.Mathlib.Omega.{arith}
 use lib.Dec.{eqb}
 use borrow.Author.Tests.{eq-eqb, ne-eqb}
-use Rattle.arith.specs.Lists.{every, any, below, isIn, AllBelow}
+use Rattle.arith.specs.Lists.{every, exists, below}
+use Rattle.arith.specs.Members.{Each}
+use Rattle.arith.proofs.Distinct.{isIn}
 use Rattle.arith.proofs.Tests.{not-and, and-left, and-right}
-use Rattle.arith.proofs.AnyEvery.{every-all, every-same, every-and, any-not-every}
+use Rattle.arith.proofs.EveryExists.{every-all, every-same, every-and, exists-not-every}
 use Rattle.arith.proofs.Order.{le-or-lt}
 
 apart : (a b c : Bool) → (not (a || b) || c) ≡ ((not a || c) && (not b || c))
@@ -37,7 +39,7 @@ module _ (p : ℕ → Bool) where
       further l i = rw (ne-eqb s n (λ e. omega arith)) i
 
   -- each number of the list
-  pub every-listed : (n : ℕ) (l : List ℕ) → AllBelow n l → every (λ i. not (isIn i l) || p i) (below n) ≡ every p l
+  pub every-listed : (n : ℕ) (l : List ℕ) → Each (_< n) l → every (λ i. not (isIn i l) || p i) (below n) ≡ every p l
   every-listed n [] h = every-all (λ i. true) (λ i. refl) (below n)
   every-listed n (s ∷ l) h =
       every-same (λ i. not (isIn i (s ∷ l)) || p i) (λ i. ifIs s i && (not (isIn i l) || p i)) (below n) (λ i. apart (eqb s i) (isIn i l) (p i))
@@ -45,11 +47,11 @@ module _ (p : ℕ → Bool) where
       ∙ ap₂ (λ (a b : Bool). a && b) (one-below n s (h .0)) (every-listed n l (h .1))
 
 -- some number of the list
-pub any-listed : (p : ℕ → Bool) (n : ℕ) (l : List ℕ) → AllBelow n l → any (λ i. isIn i l && p i) (below n) ≡ any p l
-any-listed p n l h =
-    any-not-every (λ i. isIn i l && p i) (below n)
+pub exists-listed : (p : ℕ → Bool) (n : ℕ) (l : List ℕ) → Each (_< n) l → exists (λ i. isIn i l && p i) (below n) ≡ exists p l
+exists-listed p n l h =
+    exists-not-every (λ i. isIn i l && p i) (below n)
     ∙ ap not (every-same (λ i. not (isIn i l && p i)) (λ i. not (isIn i l) || not (p i)) (below n) (λ i. not-and (isIn i l) (p i)) ∙ every-listed (λ i. not (p i)) n l h)
-    ∙ sym (any-not-every p l)
+    ∙ sym (exists-not-every p l)
 
 -- a test that every number below n passes
 pub every-below : (p : ℕ → Bool) (n : ℕ) → every p (below n) ≡ true → (i : ℕ) → i < n → p i ≡ true

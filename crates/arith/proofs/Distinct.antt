@@ -1,84 +1,96 @@
--- Different numbers below n are at most n.
-use Prim.Native.Nat.{ℕ, zero, suc, _≤_}
-use mathlib.Core.Bool.{Bool, true, false, cond, _||_}
-use mathlib.Core.List.{List, [], _∷_, _++_}
+-- Laws of lists of which no two members are equal; different numbers below n are at most n.
+use Prim.Native.Nat.{ℕ, zero, suc, _≤_, _<_}
+use mathlib.Core.Bool.{Bool, true, false, not, cond}
+use mathlib.Core.List.{List, [], _∷_, _++_, List·Memᴰ·head, List·Memᴰ·tail, List·Memᴰ·not-nil, List·Memᴰ·cases-cons, Sublistᴰ, List·Permᴰ, List·Permᴰ·cons, List·Permᴰ·trans, Permᴰ·refl, Permᴰ·symm}
+use mathlib.Core.Logic.{_↔_, ⊎-elim}
 use mathlib.Core.Path.{_≡_, refl, sym, ap, _∙_}
 use native.Mathlib.Omega.{arith}
 use lib.Dec.{eqb}
 use lib.ListN.{length}
-use borrow.Author.Tests.{eqb-true, eqb-false, ne-eqb}
-use Rattle.arith.specs.Lists.{Each, isIn, AllBelow, Distinct}
+use borrow.Author.Tests.{eqb-true, eqb-false, eq-eqb, ne-eqb, not-true}
+use Rattle.arith.specs.Lists.{exists, keep}
+use Rattle.arith.specs.Members.{Among, Each, Distinct}
+use Rattle.arith.proofs.Each.{each-more}
+use Rattle.arith.proofs.EveryExists.{exists-in, exists-out}
+use Rattle.arith.proofs.InOrder.{order-inside, order-reordered}
+use Rattle.arith.proofs.Keep.{keep-all}
+use Rattle.arith.proofs.Members.{each-in, each-out, keep-out}
+use Rattle.arith.proofs.Reordering.{among-reordered, member-first}
+use Rattle.arith.proofs.Sublists.{keep-inside}
+use Rattle.arith.proofs.Tests.{clash, not-yes}
 
-unfoldable without : ℕ → List ℕ → List ℕ
-without x [] = []
-without x (y ∷ l) = cond (eqb y x) (without x l) (y ∷ without x l)
+-- x is in the list
+abbrev pub isIn : ℕ → List ℕ → Bool
+isIn x l = exists (λ y. eqb y x) l
 
-pub neither : (a b : Bool) → a || b ≡ false → (a ≡ false) × (b ≡ false)
-neither true b h = let z : _≡_ {A = ℕ} 0 1 = cc in absurd (omega arith)
-neither false b h = (refl, h)
+module _ {A : Type 0} where
+  -- y is another than x
+  abbrev pub Other : A → A → Type 0
+  Other x y = x ≡ y → ⊥
 
-without-absent : (x : ℕ) (l : List ℕ) → isIn x l ≡ false → without x l ≡ l
-unfolding without
-without-absent x [] h = refl
-without-absent x (y ∷ l) h = let q = neither (eqb y x) (isIn x l) h in rw (q .0, without-absent x l (q .1))
+  pub distinct-inside : {Y X : List A} → Sublistᴰ Y X → Distinct X → Distinct Y
+  distinct-inside s h = order-inside Other s h
 
-still-absent : (x z : ℕ) (l : List ℕ) → isIn z l ≡ false → isIn z (without x l) ≡ false
-unfolding without
-still-absent x z [] h = refl
-still-absent x z (y ∷ l) h = let q = neither (eqb y z) (isIn z l) h in go (eqb y x) (q .0) (still-absent x z l (q .1))
-  where
-    go : (t : Bool) → eqb y z ≡ false → isIn z (without x l) ≡ false → isIn z (cond t (without x l) (y ∷ without x l)) ≡ false
-    go true a b = b
-    go false a b = rw (a, b)
+  pub distinct-reordered : {X Y : List A} → List·Permᴰ X Y → Distinct X → Distinct Y
+  distinct-reordered d h = order-reordered Other (λ x y other e. other (sym e)) d h
 
-still-distinct : (x : ℕ) (l : List ℕ) → Distinct l → Distinct (without x l)
-unfolding without
-still-distinct x [] h = tt
-still-distinct x (y ∷ l) h = go (eqb y x) (still-distinct x l (h .1))
-  where
-    go : (t : Bool) → Distinct (without x l) → Distinct (cond t (without x l) (y ∷ without x l))
-    go true a = a
-    go false a = (still-absent x y l (h .0), a)
+  pub distinct-more : (l : List A) (x : A) → Distinct l → Each (Other x) l → Distinct (l ++ (x ∷ []))
+  distinct-more [] x d h = (tt, tt)
+  distinct-more (y ∷ l) x d h = (each-more (Other y) l x (d .0) (λ e. h .0 (sym e)), distinct-more l x (d .1) (h .1))
+
+  -- two such lists with the same members are the same in another order
+  pub same-members : (X Y : List A) → Distinct X → Distinct Y → ((x : A) → Among x X ↔ Among x Y) → List·Permᴰ X Y
+  same-members [] [] o p same = Permᴰ·refl []
+  same-members [] (y ∷ Y) o p same = absurd (List·Memᴰ·not-nil (same y .1 (List·Memᴰ·head refl)))
+  same-members (x ∷ X) Y o p same =
+      let (Z, d) = member-first (same x .0 (List·Memᴰ·head refl)) in
+      let q : Distinct (x ∷ Z) = distinct-reordered d p in
+      let there : (z : A) → Among z X → Among z Z =
+      λ z m. others z Z (each-out (Other x) (o .0) m) (among-reordered (Permᴰ·symm d) (same z .0 (List·Memᴰ·tail m))) in
+      let back : (z : A) → Among z Z → Among z X =
+      λ z m. others z X (each-out (Other x) (q .0) m) (same z .1 (among-reordered d (List·Memᴰ·tail m))) in
+      List·Permᴰ·trans (List·Permᴰ·cons refl (same-members X Z (o .1) (q .1) (λ z. (there z, back z)))) (Permᴰ·symm d)
+    where
+      others : (z : A) (W : List A) → Other x z → Among z (x ∷ W) → Among z W
+      others z W h m = ⊎-elim (λ (e : z ≡ x). absurd (h (sym e))) (λ (k : Among z W). k) (List·Memᴰ·cases-cons m)
+
+-- ---- numbers
+
+pub absent-each : (x : ℕ) (l : List ℕ) → isIn x l ≡ false → Each (Other x) l
+absent-each x l h = each-in (Other x) l (λ y m e. clash (exists-in (λ z. eqb z x) m (eq-eqb y x (sym e))) h)
+
+pub each-absent : (x : ℕ) (l : List ℕ) → Each (Other x) l → isIn x l ≡ false
+each-absent x l h =
+    not-yes (isIn x l) (λ k.
+    let (y, m, e) = exists-out (λ z. eqb z x) l k in
+    each-out (Other x) h m (sym (eqb-true y x e)))
+
+-- the numbers of the list other than x
+abbrev without : ℕ → List ℕ → List ℕ
+without x l = keep (λ y. not (eqb y x)) l
 
 one-less : (x : ℕ) (l : List ℕ) → Distinct l → length l ≤ suc (length (without x l))
-unfolding without
 one-less x [] h = omega arith
 one-less x (y ∷ l) h = go (eqb y x) refl (one-less x l (h .1))
   where
-    go : (t : Bool) → eqb y x ≡ t → length l ≤ suc (length (without x l)) → suc (length l) ≤ suc (length (cond t (without x l) (y ∷ without x l)))
+    go : (t : Bool) → eqb y x ≡ t → length l ≤ suc (length (without x l)) → suc (length l) ≤ suc (length (cond (not t) (y ∷ without x l) (without x l)))
     go true e i =
-        let q : y ≡ x = eqb-true y x e in
-        let a : isIn x l ≡ false = ap (λ (z : ℕ). isIn z l) (sym q) ∙ h .0 in
-        omega (arith, ap length (without-absent x l a))
+        let others : Each (λ (z : ℕ). not (eqb z x) ≡ true) l =
+        each-in (λ (z : ℕ). not (eqb z x) ≡ true) l (λ z m. ap not (ne-eqb z x (λ k. each-out (Other y) (h .0) m (eqb-true y x e ∙ sym k)))) in
+        omega (arith, ap length (keep-all (λ z. not (eqb z x)) l others))
     go false e i = omega arith
 
-below-less : (n : ℕ) (l : List ℕ) → AllBelow (suc n) l → AllBelow n (without n l)
-unfolding without
-below-less n [] h = tt
-below-less n (y ∷ l) h = go (eqb y n) refl (below-less n l (h .1))
-  where
-    go : (t : Bool) → eqb y n ≡ t → AllBelow n (without n l) → AllBelow n (cond t (without n l) (y ∷ without n l))
-    go true e i = i
-    go false e i = let d = eqb-false y n e in let u = h .0 in (omega arith, i)
+below-less : (n : ℕ) (l : List ℕ) → Each (_< suc n) l → Each (_< n) (without n l)
+below-less n l h =
+    each-in (_< n) (without n l) (λ y m.
+    let (k, other) = keep-out (λ z. not (eqb z n)) l m in
+    let u = each-out (_< suc n) h k in
+    let d = eqb-false y n (not-true (eqb y n) other) in
+    omega arith)
 
-pub at-most : (n : ℕ) (l : List ℕ) → AllBelow n l → Distinct l → length l ≤ n
+pub at-most : (n : ℕ) (l : List ℕ) → Each (_< n) l → Distinct l → length l ≤ n
 at-most zero [] b a = omega arith
 at-most zero (x ∷ l) b a = absurd (let h = b .0 in omega arith)
 at-most (suc n) l b a =
-    let i = at-most n (without n l) (below-less n l b) (still-distinct n l a) in
+    let i = at-most n (without n l) (below-less n l b) (distinct-inside (keep-inside (λ y. not (eqb y n)) l) a) in
     omega (arith, one-less n l a)
-
-pub absent-each : (x : ℕ) (l : List ℕ) → isIn x l ≡ false → Each (λ (y : ℕ). x ≡ y → ⊥) l
-absent-each x [] h = tt
-absent-each x (y ∷ l) h = let q = neither (eqb y x) (isIn x l) h in (λ e. eqb-false y x (q .0) (sym e), absent-each x l (q .1))
-
--- one more that is new
-absent-more : (x y : ℕ) (m : List ℕ) → eqb x y ≡ false → isIn y m ≡ false → isIn y (m ++ (x ∷ [])) ≡ false
-absent-more x y [] e k = rw e
-absent-more x y (z ∷ m) e k = let r = neither (eqb z y) (isIn y m) k in rw (r .0, absent-more x y m e (r .1))
-
-pub distinct-more : (l : List ℕ) (x : ℕ) → Distinct l → isIn x l ≡ false → Distinct (l ++ (x ∷ []))
-distinct-more [] x a h = (refl, tt)
-distinct-more (y ∷ l) x a h =
-    let q = neither (eqb y x) (isIn x l) h in
-    (absent-more x y l (ne-eqb x y (λ e. eqb-false y x (q .0) (sym e))) (a .0), distinct-more l x (a .1) (q .1))

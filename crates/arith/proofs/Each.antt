@@ -4,7 +4,7 @@ use mathlib.Core.List.{List, [], _∷_, _++_, map}
 use mathlib.Core.Path.{_≡_, refl, ap₂}
 use native.Mathlib.Omega.{arith}
 use lib.ListN.{length, getD, set}
-use Rattle.arith.specs.Lists.{Each}
+use Rattle.arith.specs.Members.{Each}
 
 module _ {A : Type 0} (P : A → Type 0) where
   pub each-none : (xs : List A) → length xs ≡ 0 → Each P xs

@@ -5,7 +5,8 @@ use mathlib.Core.List.{List, [], _∷_, _++_, List·Memᴰ, List·Memᴰ·head, 
 use mathlib.Core.Path.{_≡_, refl, ap, ap₂}
 use native.Mathlib.Omega.{arith}
 use lib.ListN.{length, drop}
-use Rattle.arith.specs.Lists.{keep, Each}
+use Rattle.arith.specs.Lists.{keep}
+use Rattle.arith.specs.Members.{Each}
 
 module _ {A : Type 0} (test : A → Bool) where
   pub keep-few : (xs : List A) → length (keep test xs) ≤ length xs

@@ -2,7 +2,8 @@
 use mathlib.Core.Bool.{Bool, true, false, cond}
 use mathlib.Core.List.{List, [], _∷_, List·Memᴰ, List·Memᴰ·head, List·Memᴰ·tail, List·Memᴰ·not-nil}
 use mathlib.Core.Path.{_≡_, refl, sym, ap, subst, _∙_}
-use Rattle.arith.specs.Lists.{every, keep, Each}
+use Rattle.arith.specs.Lists.{every, keep}
+use Rattle.arith.specs.Members.{Each}
 use Rattle.arith.proofs.Tests.{and-left, and-right}
 
 module _ {A : Type 0} (P : A → Type 0) where

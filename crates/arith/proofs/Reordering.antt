@@ -4,7 +4,8 @@ use mathlib.Core.Bool.{Bool, true, false, cond, _||_}
 use mathlib.Core.List.{List, _∷_, List·Memᴰ, List·Memᴰ·head, List·Memᴰ·tail, List·Permᴰ, List·Permᴰ·nil, List·Permᴰ·cons, List·Permᴰ·swap, List·Permᴰ·trans, Permᴰ·refl}
 use mathlib.Core.Path.{_≡_, refl, sym, ap, subst, _∙_}
 use lib.ListN.{length}
-use Rattle.arith.specs.Lists.{any, keep, nonEmpty, Each}
+use Rattle.arith.specs.Lists.{exists, keep, nonEmpty}
+use Rattle.arith.specs.Members.{Each}
 use Rattle.arith.proofs.Members.{each-in, each-out}
 use Rattle.arith.proofs.Tests.{or-swap}
 
@@ -60,6 +61,6 @@ module _ {A : Type 0} where
   pub some-reordered : {X Y : List A} → List·Permᴰ X Y → nonEmpty X ≡ nonEmpty Y
   some-reordered d = same-reordered nonEmpty (λ a b X. refl) (λ a X Y e. refl) d
 
-  pub any-reordered : (test : A → Bool) {X Y : List A} → List·Permᴰ X Y → any test X ≡ any test Y
-  any-reordered test d =
-      same-reordered (any test) (λ a b X. or-swap (test a) (test b) (any test X)) (λ a X Y e. ap (λ (t : Bool). test a || t) e) d
+  pub exists-reordered : (test : A → Bool) {X Y : List A} → List·Permᴰ X Y → exists test X ≡ exists test Y
+  exists-reordered test d =
+      same-reordered (exists test) (λ a b X. or-swap (test a) (test b) (exists test X)) (λ a X Y e. ap (λ (t : Bool). test a || t) e) d

@@ -1,12 +1,13 @@
 -- Laws of sublists: lists that leave some members of another out and keep the order of the others.
 use Prim.Native.Nat.{_≤_, _<_}
 use mathlib.Core.Bool.{Bool, true, false, cond}
-use mathlib.Core.List.{List, [], _∷_, _++_, Sublistᴰ, Sublistᴰ·slnil, Sublistᴰ·cons, Sublistᴰ·cons-cons, Sublistᴰ·eq-nil, Sublistᴰ·nil-sublist, Sublistᴰ·refl}
+use mathlib.Core.List.{List, [], _∷_, _++_, map, Sublistᴰ, Sublistᴰ·slnil, Sublistᴰ·cons, Sublistᴰ·cons-cons, Sublistᴰ·eq-nil, Sublistᴰ·nil-sublist, Sublistᴰ·refl}
 use mathlib.Core.Logic.{_⊎_, inl, inr, ⊎-elim}
 use mathlib.Core.Path.{_≡_, refl, sym, ap, ap₂, subst, _∙_}
 use native.Mathlib.Omega.{arith}
 use lib.ListN.{length}
-use Rattle.arith.specs.Lists.{every, keep, Each}
+use Rattle.arith.specs.Lists.{every, keep}
+use Rattle.arith.specs.Members.{Each}
 use Rattle.arith.proofs.Tests.{and-left, and-right}
 
 module _ {A : Type 0} where
@@ -87,3 +88,8 @@ module _ {A : Type 0} where
       (λ t. inl (Sublistᴰ·cons-cons e t))
       (λ t. inr (a ∷ t .0, ap {B = List A} (λ l. a ∷ l) (t .1), Sublistᴰ·cons-cons e (t .2)))
       (inside-last X s)
+
+pub inside-map : {A B : Type 0} (f : A → B) {Y X : List A} → Sublistᴰ Y X → Sublistᴰ (map f Y) (map f X)
+inside-map f Sublistᴰ·slnil = Sublistᴰ·slnil
+inside-map f (Sublistᴰ·cons s) = Sublistᴰ·cons (inside-map f s)
+inside-map f (Sublistᴰ·cons-cons e s) = Sublistᴰ·cons-cons (ap f e) (inside-map f s)

@@ -5,7 +5,7 @@ use mathlib.Core.Logic.{_⊎_, inl, inr}
 use mathlib.Core.Path.{_≡_, refl, sym, ap, _∙_}
 use native.Mathlib.Omega.{arith}
 use mir.Val.{boolByte}
-use Rattle.arith.specs.Lists.{every, any, below}
+use Rattle.arith.specs.Lists.{every, exists, below}
 
 -- an answer is not both
 pub clash : {X : Type 0} {b : Bool} → b ≡ true → b ≡ false → X
@@ -87,10 +87,10 @@ every-low zero test = refl
 every-low (suc n) test =
     ap (λ (b : Bool). test (suc n) && b) (every-low n test) ∙ and-swap (test (suc n)) (test zero) (every (λ s. test (suc s)) (below n))
 
-pub any-low : (n : ℕ) (test : ℕ → Bool) → any test (below (suc n)) ≡ (test zero || any (λ s. test (suc s)) (below n))
-any-low zero test = refl
-any-low (suc n) test =
-    ap (λ (b : Bool). test (suc n) || b) (any-low n test) ∙ or-swap (test (suc n)) (test zero) (any (λ s. test (suc s)) (below n))
+pub exists-low : (n : ℕ) (test : ℕ → Bool) → exists test (below (suc n)) ≡ (test zero || exists (λ s. test (suc s)) (below n))
+exists-low zero test = refl
+exists-low (suc n) test =
+    ap (λ (b : Bool). test (suc n) || b) (exists-low n test) ∙ or-swap (test (suc n)) (test zero) (exists (λ s. test (suc s)) (below n))
 
 -- an answer as a number is at most 1
 pub byte-small : (b : Bool) → boolByte b ≤ 1

@@ -4,12 +4,13 @@ use mathlib.Core.List.{List, [], _∷_, _++_, append-assoc}
 use mathlib.Core.Path.{_≡_, refl, subst, _∙_}
 use native.Mathlib.Omega.{arith}
 use lib.ListN.{length}
-use Rattle.arith.specs.Trees.{Tree, leaf, join, Node, value, joining, postfix, LeavesOne, treeValue, taken, run}
+use Rattle.arith.specs.Trees.{Tree, leaf, join, Node, value, joining, postfix, treeValue, joinedLast, run}
+use Rattle.arith.specs.Leaves.{LeavesOne}
 
 module _ {J L A : Type 0} (onJoin : J → A → A → A) (onLeaf : L → A) where
   pub run-tree : (t : Tree J L) (ns : List (Node J L)) (values : List A)
       → run onJoin onLeaf (postfix t ++ ns) values ≡ run onJoin onLeaf ns (treeValue onJoin onLeaf t ∷ values)
-  unfolding postfix run taken treeValue
+  unfolding postfix run joinedLast treeValue
   run-tree (leaf l) ns values = refl
   run-tree (join j a b) ns values =
       rw (append-assoc (postfix a) (postfix b ++ (joining j ∷ [])) ns, append-assoc (postfix b) (joining j ∷ []) ns)

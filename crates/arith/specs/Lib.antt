@@ -1,4 +1,7 @@
 pub mod Lists
+pub mod Members
 pub mod Options
 pub mod Trees
+pub mod Leaves
+pub mod Padding
 pub mod Tables

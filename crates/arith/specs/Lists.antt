@@ -1,10 +1,8 @@
 -- Tests over lists, and lists made from lists.
-use Prim.Native.Nat.{ℕ, zero, suc, _-_, _<_}
+use Prim.Native.Nat.{ℕ, zero, suc}
 use mathlib.Core.Bool.{Bool, true, false, cond, _&&_, _||_}
 use mathlib.Core.List.{List, [], _∷_, _++_, map}
-use mathlib.Core.Path.{_≡_}
-use lib.Dec.{eqb}
-use lib.ListN.{length, replicate}
+use lib.ListN.{length}
 
 module _ {A : Type 0} where
   -- every member passes the test
@@ -13,9 +11,9 @@ module _ {A : Type 0} where
   every test (x ∷ xs) = test x && every test xs
 
   -- at least one member passes the test
-  abbrev pub any : (A → Bool) → List A → Bool
-  any test [] = false
-  any test (x ∷ xs) = test x || any test xs
+  abbrev pub exists : (A → Bool) → List A → Bool
+  exists test [] = false
+  exists test (x ∷ xs) = test x || exists test xs
 
   -- the members that pass the test, in their order
   abbrev pub keep : (A → Bool) → List A → List A
@@ -32,11 +30,6 @@ module _ {A : Type 0} where
   subsets [] = [] ∷ []
   subsets (x ∷ xs) = map (λ Y. x ∷ Y) (subsets xs) ++ subsets xs
 
--- each member has the property
-abbrev pub Each : {A : Type 0} → (A → Type 0) → List A → Type 0
-Each P [] = Unit {0}
-Each P (x ∷ xs) = P x × Each P xs
-
 -- the numbers below n, falling: n - 1, .. 1, 0
 abbrev pub below : ℕ → List ℕ
 below zero = []
@@ -45,20 +38,3 @@ below (suc n) = n ∷ below n
 -- how many of the numbers below n pass the test
 unfoldable pub countBelow : ℕ → (ℕ → Bool) → ℕ
 countBelow n test = length (keep test (below n))
-
--- n cells: the list, and then z in the cells beyond it
-unfoldable pub padded {ℓ} : {A : Type ℓ} → ℕ → A → List A → List A
-padded n z xs = xs ++ replicate (n - length xs) z
-
--- x is in the list
-abbrev pub isIn : ℕ → List ℕ → Bool
-isIn x l = any (λ y. eqb y x) l
-
--- each is below n
-abbrev pub AllBelow : ℕ → List ℕ → Type 0
-AllBelow n l = Each (λ (x : ℕ). x < n) l
-
--- no two are equal
-abbrev pub Distinct : List ℕ → Type 0
-Distinct [] = Unit {0}
-Distinct (x ∷ l) = (isIn x l ≡ false) × Distinct l

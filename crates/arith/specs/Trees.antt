@@ -1,7 +1,5 @@
 -- Binary trees, and their nodes in the order left, right, join.
-use Prim.Native.Nat.{ℕ, _+_, _-_, _≤_}
 use mathlib.Core.List.{List, [], _∷_, _++_}
-use mathlib.Core.Path.{_≡_}
 
 -- a tree with leaves of the type L and joins of the type J
 pub data Tree (J L : Type 0) : Type 0 where
@@ -19,17 +17,6 @@ module _ {J L : Type 0} where
   postfix (leaf l) = value l ∷ []
   postfix (join j a b) = postfix a ++ (postfix b ++ (joining j ∷ []))
 
-  -- how many leaves a tree has
-  unfoldable pub leafCount : Tree J L → ℕ
-  leafCount (leaf l) = 1
-  leafCount (join j a b) = leafCount a + leafCount b
-
-  -- taken one after the other from n values on, each join finds two values, and one value is left
-  abbrev pub LeavesOne : List (Node J L) → ℕ → Type 0
-  LeavesOne [] n = n ≡ 1
-  LeavesOne (value l ∷ ns) n = LeavesOne ns (n + 1)
-  LeavesOne (joining j ∷ ns) n = (2 ≤ n) × LeavesOne ns (n - 1)
-
 module _ {J L M K : Type 0} (onJoin : J → K) (onLeaf : L → M) where
   -- a tree of the same shape
   unfoldable pub mapTree : Tree J L → Tree K M
@@ -43,13 +30,13 @@ module _ {J L A : Type 0} (onJoin : J → A → A → A) (onLeaf : L → A) wher
   treeValue (join j a b) = onJoin j (treeValue a) (treeValue b)
 
   -- a join takes the last two values, the last first, and leaves one; with fewer there is nothing to take
-  unfoldable pub taken : J → List A → List A
-  taken j [] = []
-  taken j (b ∷ []) = []
-  taken j (b ∷ a ∷ values) = onJoin j a b ∷ values
+  unfoldable pub joinedLast : J → List A → List A
+  joinedLast j [] = []
+  joinedLast j (b ∷ []) = []
+  joinedLast j (b ∷ a ∷ values) = onJoin j a b ∷ values
 
   -- the values left, the last first, when nodes are taken one after the other
   unfoldable pub run : List (Node J L) → List A → List A
   run [] values = values
   run (value l ∷ ns) values = run ns (onLeaf l ∷ values)
-  run (joining j ∷ ns) values = run ns (taken j values)
+  run (joining j ∷ ns) values = run ns (joinedLast j values)

@@ -11,7 +11,7 @@ use lib.Bits as bits
 use lib.Dec.{eqb}
 use lib.Pow.{pow-add, shr-lt}
 use borrow.Author.Tests.{eqb-true, eqb-false, eq-eqb, ne-eqb}
-use Rattle.arith.specs.Lists.{every, any, below}
+use Rattle.arith.specs.Lists.{every, exists, below}
 use Rattle.arith.proofs.Below.{every-below}
 use Rattle.arith.proofs.Digits.{digits}
 use Rattle.arith.proofs.Order.{le-or-lt}
@@ -150,15 +150,15 @@ module _ (low signal : ℕ) where
   sharing-nowhere n j h = present-none j ∙ sym (ap (λ (t : Bool). t && present j signal) (lacks-signal n))
 
 -- one signal more
-pub overlap-more : (low n a b : ℕ) → WordOf (λ j. present low n && present j n) a → WordOf (λ j. any (λ s. present low s && present j s) (below n)) b
-    → WordOf (λ j. any (λ s. present low s && present j s) (below (n + 1))) (bitOr a b)
+pub overlap-more : (low n a b : ℕ) → WordOf (λ j. present low n && present j n) a → WordOf (λ j. exists (λ s. present low s && present j s) (below n)) b
+    → WordOf (λ j. exists (λ s. present low s && present j s) (below (n + 1))) (bitOr a b)
 overlap-more low n a b wa wb j h =
-    present-or a b j ∙ ap₂ (λ (x y : Bool). x || y) (wa j h) (wb j h) ∙ sym (ap (λ (m : ℕ). any (λ s. present low s && present j s) (below m)) (add-one n))
+    present-or a b j ∙ ap₂ (λ (x y : Bool). x || y) (wa j h) (wb j h) ∙ sym (ap (λ (m : ℕ). exists (λ s. present low s && present j s) (below m)) (add-one n))
 
 -- all six
-pub overlap-done : (low word n : ℕ) → low < 64 → n ≡ 6 → WordOf (λ j. any (λ s. present low s && present j s) (below n)) word → WordOf (overlap low) word
+pub overlap-done : (low word n : ℕ) → low < 64 → n ≡ 6 → WordOf (λ j. exists (λ s. present low s && present j s) (below n)) word → WordOf (overlap low) word
 overlap-done low word n small all w j h =
-    w j h ∙ ap (λ (x : ℕ). any (λ s. present low s && present j s) (below x)) all ∙ overlap-below 6 low j small ∙ sym (overlap-and low j (omega arith))
+    w j h ∙ ap (λ (x : ℕ). exists (λ s. present low s && present j s) (below x)) all ∙ overlap-below 6 low j small ∙ sym (overlap-and low j (omega arith))
 
 -- in a block, by the test of the higher signals
 module _ (mask block j : ℕ) (small : mask ≤ 65535) (within : block ≤ 1023) (h : j < 64) where

@@ -34,7 +34,7 @@ use Rattle.book.specs.declared.acceptance.Verdict.{Verdict}
 use Rattle.book.specs.declared.acceptance.Verdict.the-variants.{Fine}
 use Rattle.book.specs.declared.adding.Step.{Step}
 use Rattle.book.specs.declared.adding.Step.the-variants.{Added, Refused}
-use Rattle.book.proofs.RangeLaws.{Passed, passed, rule-room, exclusion-in-range}
+use Rattle.book.proofs.RangeLaws.{Passed, passed, rule-room, Apart, apart-in-range}
 use Rattle.book.proofs.SoFarLaws.{in-rules-is, policies-is, conditions-is, old-zero-is}
 
 -- ---- a step
@@ -137,9 +137,9 @@ module _ (so : BookSoFar) (a b : ℕ) (j : Judged so (exclusion a b) Fine) where
   unfolding inCount
   exclusion-room = ltb-true (length (so .book .exclusions)) 16 (fine-passed so (exclusion a b) j .count)
 
-  pub exclusion-fits : ExclusionInRange (record { first = a; second = b })
+  pub exclusion-fits : Apart a b
   unfolding inRange
-  exclusion-fits = exclusion-in-range a b (fine-passed so (exclusion a b) j .range)
+  exclusion-fits = apart-in-range a b (fine-passed so (exclusion a b) j .range)
 
 -- mentions of one of the first n policies are of one of the first k
 mentions-more : (n k : ℕ) (e : Expression) → n ≤ k → mentionsBelow n e ≡ true → mentionsBelow k e ≡ true

@@ -12,11 +12,12 @@ use lib.Signed.{nonNeg}
 use mir.Syntax.{Width, w32}
 use mir.Val.{Fits, SFits, toZ, ofZ}
 use mir.ValLaws.{toZ-ofZ}
-use Rattle.arith.specs.Lists.{padded}
+use Rattle.arith.specs.Padding.{padded}
 use Rattle.arith.proofs.Each.{each-get}
 use Rattle.arith.proofs.Padding.{padded-more}
 use Rattle.signals.proofs.SetOfLaws.{set-below}
-use Rattle.peal.specs.Policies.{Rule, Policy, Exclusion, Condition, Book, noRule, noExclusion, policyAt, maskOf}
+use Rattle.peal.specs.Policies.{Rule, Policy, Exclusion, Condition, Book, policyAt, maskOf}
+use Rattle.peal.specs.Standins.{noRule, noExclusion}
 use Rattle.peal.specs.declared.Operator.{Operator}
 use Rattle.peal.specs.declared.Operator.the-variants.{Min, Max, Sum, Mul}
 use Rattle.peal.specs.declared.Sense.{Sense}
@@ -27,7 +28,7 @@ use Rattle.book.specs.Ranges.{signalsOf, PolicyInRange, ExclusionInRange
 use Rattle.book.proofs.MentionedPolicies.{mention-below}
 use Rattle.book.proofs.ConditionLaws.{condition-within, each-condition}
 use Rattle.text.proofs.MentionLaws.{codes-count}
-use Rattle.book.proofs.RangeLaws.{rules-at-most, policy-in-range}
+use Rattle.book.proofs.RangeLaws.{rules-at-most, Apart, apart-in-range, policy-in-range}
 
 -- ---- a cell that is read
 
@@ -122,8 +123,8 @@ abbrev pub book-exclusions : {cells : List ℤ} {b : Book} → BookCells cells b
 book-exclusions {b = b} held range = record { exclusions = b .exclusions; held = held .exclusions; room = range .exclusionsRoom; range = range .exclusions }
 
 -- exclusion i of some that are kept
-pub kept-exclusion : {cells : List ℤ} (h : ExclusionsKept cells) (i : ℕ) → i < length (h .exclusions) → ExclusionInRange (getD (h .exclusions) i noExclusion)
-kept-exclusion h i l = each-get ExclusionInRange (h .exclusions) i noExclusion (h .range) l
+pub kept-exclusion : {cells : List ℤ} (h : ExclusionsKept cells) (i : ℕ) → i < length (h .exclusions) → Apart (getD (h .exclusions) i noExclusion .first) (getD (h .exclusions) i noExclusion .second)
+kept-exclusion h i l = apart-in-range _ _ (each-get ExclusionInRange (h .exclusions) i noExclusion (h .range) l)
 
 -- two lists of exclusions of the same cells are as long
 pub same-exclusions : {cells : List ℤ} {xs ys : List Exclusion} → ExclusionCells cells xs → ExclusionCells cells ys → length xs ≡ length ys

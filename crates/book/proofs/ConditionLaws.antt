@@ -7,7 +7,7 @@ use native.Mathlib.Omega.{arith}
 use lib.ListN.{length}
 use Rattle.answers.specs.Answers.{result, refused}
 use Rattle.answers.proofs.Results.{no-refusal, result-is}
-use Rattle.arith.specs.Lists.{Each}
+use Rattle.arith.specs.Members.{Each}
 use Rattle.peal.specs.Policies.{Condition}
 use Rattle.book.specs.Books.{conditionAt}
 

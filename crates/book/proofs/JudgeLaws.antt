@@ -12,8 +12,9 @@ use lib.ListN.{length, getD, take, drop, drop-of-length-le}
 use lib.Seq.{drop-cons, getD-take}
 use borrow.Author.Tests.{eq-eqb, ne-eqb, lt-ltb, le-ltb}
 use Rattle.answers.specs.Answers.{result, refused}
-use Rattle.arith.specs.Lists.{any, every, Distinct}
-use Rattle.arith.proofs.AnyEvery.{any-map}
+use Rattle.arith.specs.Lists.{exists, every}
+use Rattle.arith.specs.Members.{Distinct}
+use Rattle.arith.proofs.EveryExists.{exists-map}
 use Rattle.signals.specs.Sets.{present}
 use Rattle.signals.proofs.SetOfLaws.{present-set}
 use Rattle.peal.specs.Policies.{Rule, Expression, Exclusion, maskOf}
@@ -121,7 +122,7 @@ module _ (so : BookSoFar) (s : ℕ) (v : ℤ) where
   rule-new d mask e t b f h =
       let rules = lastPolicy (so .book) .rules in
       ap not
-      (sym (any-map (λ (r : Rule). r .signal) (λ y. eqb y s) rules)
+      (sym (exists-map (λ (r : Rule). r .signal) (λ y. eqb y s) rules)
       ∙ sym (present-set (signalsOf rules) d s) ∙ ap (λ (m : ℕ). present m s) (sym e) ∙ sym f ∙ h)
 
 -- ---- an exclusion
@@ -143,7 +144,7 @@ module _ (so : BookSoFar) (a b : ℕ) where
   unfolding inRange
   exclusion-range t h = h
 
-  pub exclusion-new : (t c : Bool) → t ≡ any (excludes a b) (so .book .exclusions) → t ≡ c → isNew so (exclusion a b) ≡ not c
+  pub exclusion-new : (t c : Bool) → t ≡ exists (excludes a b) (so .book .exclusions) → t ≡ c → isNew so (exclusion a b) ≡ not c
   unfolding isNew
   exclusion-new t c e h = ap not (sym e ∙ h)
 

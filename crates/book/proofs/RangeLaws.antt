@@ -6,22 +6,23 @@ use mathlib.Core.Option.{Option, none, some}
 use mathlib.Core.Path.{_≡_, refl, sym, subst, _∙_}
 use native.Mathlib.Omega.{arith}
 use lib.Dec.{leb, eqb}
-use lib.IntN.{ℤ, pos, negℤ}
+use lib.IntN.{ℤ}
 use lib.ListN.{length, length-append, length-set, length-map}
 use borrow.Author.Tests.{leb-true, ltb-true, eqb-true, eqb-false, not-true}
 use Rattle.answers.specs.Answers.{result}
 use Rattle.answers.proofs.Results.{no-refusal, result-is, required, gone-on}
-use Rattle.arith.specs.Lists.{any, Each, AllBelow, Distinct}
-use Rattle.arith.proofs.AnyEvery.{any-map}
-use Rattle.arith.proofs.Distinct.{at-most, distinct-more}
+use Rattle.arith.specs.Lists.{exists}
+use Rattle.arith.specs.Members.{Each, Distinct}
+use Rattle.arith.proofs.EveryExists.{exists-map}
+use Rattle.arith.proofs.Distinct.{absent-each, at-most, distinct-more}
 use Rattle.arith.proofs.Each.{each-none, each-get, each-more, each-set}
 use Rattle.arith.proofs.Options.{Finds}
 use Rattle.arith.proofs.Tests.{and-left, and-right, clash}
-use Rattle.arith.specs.Trees.{leafCount}
+use Rattle.arith.specs.Leaves.{leafCount}
 use Rattle.peal.specs.Policies.{Rule, Policy, Exclusion, Condition, Book, policyAt}
 use Rattle.peal.specs.declared.Operator.{Operator}
 use Rattle.peal.specs.declared.Operator.the-variants.{Min, Max, Sum, Mul}
-use Rattle.limits.specs.Limits.{exclusionInRange}
+use Rattle.limits.specs.Limits.{exclusionInRange, thresholdInRange}
 use Rattle.text.specs.Text.{Line, textLines}
 use Rattle.text.specs.Forms.{Form, oldZero, policy, rule, exclusion, condition, form}
 use Rattle.book.specs.Acceptance.{BookSoFar, noLine, emptyBook, lastPolicy, inPlace, inCount, roomForRule, within, defaultInRange, scoreInRange, mentionsBelow, inRange, isNew, missingDefault, defaultOf, noRules, withRule, withPolicies, withPolicy, withLast, withExclusion, withCondition, bookWith, opensRules, accept}
@@ -74,28 +75,33 @@ module _ (p : Policy) (h : PolicyInRange p) where
   rules-at-most = omega (arith, at-most 16 (signalsOf (p .rules)) (h .signals) (h .distinct), length-map (p .rules) (λ (r : Rule). r .signal))
 
   rule-added : (r : Rule) → roomForRule (p .operator) (length (p .rules)) ≡ true → r .signal < 16 → scoreInRange (p .operator) (r .score) ≡ true
-      → any (λ (x : Rule). eqb (x .signal) (r .signal)) (p .rules) ≡ false → PolicyInRange (withRule p r)
+      → exists (λ (x : Rule). eqb (x .signal) (r .signal)) (p .rules) ≡ false → PolicyInRange (withRule p r)
   unfolding withRule
   rule-added r room small score new =
       let more : signalsOf (p .rules ++ (r ∷ [])) ≡ signalsOf (p .rules) ++ (r .signal ∷ []) = map-append (λ (x : Rule). x .signal) (p .rules) (r ∷ []) in
       record {
         default = h .default;
-        signals = subst (AllBelow 16) (sym more) (each-more (λ (x : ℕ). x < 16) (signalsOf (p .rules)) (r .signal) (h .signals) small);
-        distinct = subst Distinct (sym more) (distinct-more (signalsOf (p .rules)) (r .signal) (h .distinct) (any-map (λ (x : Rule). x .signal) (λ y. eqb y (r .signal)) (p .rules) ∙ new));
+        signals = subst (Each (_< 16)) (sym more) (each-more (λ (x : ℕ). x < 16) (signalsOf (p .rules)) (r .signal) (h .signals) small);
+        distinct = subst Distinct (sym more) (distinct-more (signalsOf (p .rules)) (r .signal) (h .distinct) (absent-each (r .signal) (signalsOf (p .rules)) (exists-map (λ (x : Rule). x .signal) (λ y. eqb y (r .signal)) (p .rules) ∙ new)));
         scores = each-more (λ (x : Rule). scoreInRange (p .operator) (x .score) ≡ true) (p .rules) r (h .scores) score;
         room = λ e. omega (arith, length-append (p .rules) (r ∷ []), room-in-mul (p .operator) (p .rules) room e);
       }
 
-condition-in-range : (n : ℕ) (c : Condition) → (within (negℤ (pos 200000)) (pos 200000) (c .threshold) && mentionsBelow n (c .expression)) ≡ true
+condition-in-range : (n : ℕ) (c : Condition) → (thresholdInRange (c .threshold) && mentionsBelow n (c .expression)) ≡ true
     → leafCount (c .expression) ≤ 16 → ConditionInRange n c
 condition-in-range n c h room =
-    let t : Bool = within (negℤ (pos 200000)) (pos 200000) (c .threshold) in
+    let t : Bool = thresholdInRange (c .threshold) in
     let m : Bool = mentionsBelow n (c .expression) in
     record { threshold = and-left t m h; mentionsRoom = room; mentions = and-right t m h }
 
 -- two signals of 0 to 15 that differ
-pub exclusion-in-range : (a b : ℕ) → exclusionInRange a b ≡ true → ExclusionInRange (record { first = a; second = b })
-exclusion-in-range a b h =
+pub record Apart (a b : ℕ) : Type 0 where
+  pub first : a < 16
+  pub second : b < 16
+  pub apart : a ≡ b → ⊥
+
+pub apart-in-range : (a b : ℕ) → exclusionInRange a b ≡ true → Apart a b
+apart-in-range a b h =
     let both = and-left (leb a 15 && leb b 15) (not (eqb a b)) h in
     let differ = not-true (eqb a b) (and-right (leb a 15 && leb b 15) (not (eqb a b)) h) in
     record {
@@ -209,7 +215,7 @@ module _ (so : BookSoFar) (b : Bounded so) where
       record { range = last-changed (so .book) (b .range) (changed so s v) (changed-in-range n s v p); some = λ _. omega (arith, rule-some n s v p) }
   bounded-after n (exclusion a c) p few =
       let room = ltb-true (length (so .book .exclusions)) 16 (p .count) in
-      record { range = exclusion-added (so .book) (b .range) (record { first = a; second = c }) room (exclusion-in-range a c (p .range)); some = λ h. clash h refl }
+      record { range = exclusion-added (so .book) (b .range) (record { first = a; second = c }) room (p .range); some = λ h. clash h refl }
   bounded-after n (condition c t e) p few =
       let k : Condition = record { sense = c; threshold = t; expression = e } in
       let room = ltb-true (length (so .book .conditions)) 8 (p .count) in

@@ -9,7 +9,7 @@ use lib.IntN.{ℤ, pos, negsuc, negℤ}
 use lib.ListN.{length}
 use lib.Signed.{mag, leZ}
 use borrow.Author.Tests.{leb-true}
-use Rattle.arith.specs.Lists.{Each}
+use Rattle.arith.specs.Members.{Each}
 use Rattle.arith.proofs.Members.{each-in, each-out}
 use Rattle.arith.proofs.Tests.{and-left, and-right, clash}
 use Rattle.peal.specs.Policies.{Rule}

@@ -7,13 +7,14 @@ use lib.IntN.{ℤ, pos}
 use lib.ListN.{length, set, length-append, length-set}
 use lib.Seq.{getD-set-same}
 use Rattle.answers.proofs.Results.{no-refusal}
-use Rattle.peal.specs.Policies.{Exclusion, Book, noExclusion}
+use Rattle.peal.specs.Policies.{Exclusion, Book}
 use Rattle.book.specs.Acceptance.{emptyBook, withExclusion}
 use Rattle.book.specs.Books.{conditionAt}
 use Rattle.book.specs.Cells.{cell, exclusionCountCell, firstCell, secondCell, cellCount, ExclusionCells, BookCells}
 use Rattle.book.specs.Ranges.{BookInRange}
 use Rattle.book.proofs.ConditionLaws.{condition-within}
 use Rattle.book.proofs.ChangedCells.{Wrote, wrote, Changed, changed, changed-then, policy-before, condition-before, one-more}
+use Rattle.peal.specs.Standins.{noExclusion}
 
 -- cells whose count of exclusions is 0 are those of no book
 pub nothing-put : (before : List ℤ) → length before ≡ cellCount → BookCells (set before exclusionCountCell (pos 0)) emptyBook

@@ -6,8 +6,9 @@ use native.Mathlib.Omega.{arith}
 use lib.IntN.{ℤ, pos}
 use lib.ListN.{length, set, length-append, length-set}
 use Rattle.arith.proofs.Rows.{stored}
+use Rattle.peal.specs.Standins.{noRule}
 use Rattle.signals.specs.Sets.{setOf}
-use Rattle.peal.specs.Policies.{Rule, Policy, Book, noRule, policyAt, emptyPolicy, maskOf}
+use Rattle.peal.specs.Policies.{Rule, Policy, Book, policyAt, emptyPolicy, maskOf}
 use Rattle.peal.specs.declared.Operator.{Operator}
 use Rattle.peal.proofs.MaskLaws.{mask-more}
 use Rattle.book.specs.Acceptance.{noRules, lastPolicy, withRule, withPolicies, withPolicy, withLast}

@@ -7,7 +7,8 @@ use lib.IntN.{pos}
 use lib.ListN.{length, getD, set, drop, length-map, List·getD-map}
 use lib.Seq.{drop-cons}
 use Rattle.arith.proofs.Padding.{padded-get}
-use Rattle.peal.specs.Policies.{Rule, Policy, noRule}
+use Rattle.peal.specs.Policies.{Rule, Policy}
+use Rattle.peal.specs.Standins.{noRule}
 use Rattle.book.specs.Ranges.{signalsOf, PolicyByValue}
 use Rattle.book.specs.Cells.{storedPolicy}
 use Rattle.book.specs.declared.cells.Policy.{Policy as StoredPolicy}

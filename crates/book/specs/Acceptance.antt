@@ -6,7 +6,7 @@ use mathlib.Core.Option.{Option, none, some}
 use lib.Dec.{ltb, eqb}
 use lib.IntN.{ℤ, pos}
 use lib.ListN.{length, set}
-use Rattle.arith.specs.Lists.{any}
+use Rattle.arith.specs.Lists.{exists}
 use Rattle.arith.specs.Trees.{treeValue}
 use Rattle.answers.specs.Answers.{Answer, result, require}
 use Rattle.peal.specs.Policies.{Rule, Policy, MinMax, Expression, Exclusion, Condition, Book, policyAt}
@@ -74,8 +74,8 @@ excludes a b x = (eqb (x .first) a && eqb (x .second) b) || (eqb (x .first) b &&
 unfoldable pub isNew : BookSoFar → Form → Bool
 isNew soFar oldZero = true
 isNew soFar (policy op d) = true
-isNew soFar (rule s v) = not (any (λ (q : Rule). eqb (q .signal) s) (lastPolicy (soFar .book) .rules))
-isNew soFar (exclusion a b) = not (any (excludes a b) (soFar .book .exclusions))
+isNew soFar (rule s v) = not (exists (λ (q : Rule). eqb (q .signal) s) (lastPolicy (soFar .book) .rules))
+isNew soFar (exclusion a b) = not (exists (excludes a b) (soFar .book .exclusions))
 isNew soFar (condition c t e) = true
 
 -- `p OP` alone: D is 100 for `min` and `mul`, 0 for `max` and `sum`; in a book whose first line is `o` it is 0 for all four

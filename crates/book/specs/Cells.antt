@@ -4,8 +4,9 @@ use mathlib.Core.List.{List, map}
 use mathlib.Core.Path.{_≡_}
 use lib.IntN.{ℤ, pos}
 use lib.ListN.{length, getD}
-use Rattle.arith.specs.Lists.{padded}
-use Rattle.peal.specs.Policies.{Rule, Policy, Expression, Exclusion, Condition, Book, noRule, noExclusion, policyAt, maskOf}
+use Rattle.arith.specs.Padding.{padded}
+use Rattle.peal.specs.Standins.{noRule, noExclusion}
+use Rattle.peal.specs.Policies.{Rule, Policy, Expression, Exclusion, Condition, Book, policyAt, maskOf}
 use Rattle.peal.specs.declared.Operator.{Operator}
 use Rattle.peal.specs.declared.Operator.the-variants.{Min, Max, Sum, Mul}
 use Rattle.peal.specs.declared.Sense.{Sense}

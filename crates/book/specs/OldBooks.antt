@@ -7,7 +7,7 @@ use mathlib.Core.Option.{none, some}
 use mathlib.Core.Path.{_≡_}
 use lib.ListN.{length}
 use Rattle.answers.specs.Answers.{Answer, result, refused, require}
-use Rattle.arith.specs.Lists.{Each}
+use Rattle.arith.specs.Members.{Each}
 use Rattle.peal.specs.Policies.{Book}
 use Rattle.peal.specs.declared.Operator.{Operator}
 use Rattle.peal.specs.declared.Operator.the-variants.{Min, Mul}

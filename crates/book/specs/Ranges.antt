@@ -2,16 +2,18 @@
 use Prim.Native.Nat.{ℕ, _≤_, _<_}
 use mathlib.Core.Bool.{true}
 use mathlib.Core.List.{List, map}
+use mathlib.Core.Option.{some}
 use mathlib.Core.Path.{_≡_}
-use lib.IntN.{ℤ, pos, negℤ}
+use lib.IntN.{ℤ}
 use lib.ListN.{length}
-use Rattle.arith.specs.Lists.{Each, AllBelow, Distinct}
+use Rattle.arith.specs.Members.{Each, Distinct}
 use Rattle.answers.specs.Answers.{result}
-use Rattle.arith.specs.Trees.{leafCount}
+use Rattle.arith.specs.Leaves.{leafCount}
 use Rattle.peal.specs.Policies.{Rule, Policy, Exclusion, Condition, Book}
 use Rattle.peal.specs.declared.Operator.the-variants.{Mul}
 use Rattle.text.specs.Codes.{codesOf}
-use Rattle.book.specs.Acceptance.{within, scoreInRange, mentionsBelow}
+use Rattle.limits.specs.Limits.{exclusionInRange, defaultInRange, scoreInRange, thresholdInRange}
+use Rattle.book.specs.Acceptance.{mentionsBelow}
 use Rattle.book.specs.Books.{conditionAt}
 use Rattle.book.specs.Cells.{PolicyCells, ExclusionCells, BookCells, storedPolicy}
 use Rattle.book.specs.declared.cells.Policy.{Policy as StoredPolicy}
@@ -22,21 +24,19 @@ signalsOf rules = map (λ (r : Rule). r .signal) rules
 
 -- D, the different signals, the scores, and at most 8 rules in mul
 pub record PolicyInRange (p : Policy) : Type 0 where
-  pub default : within (negℤ (pos 10000)) (pos 10000) (p .default) ≡ true
-  pub signals : AllBelow 16 (signalsOf (p .rules))
+  pub default : defaultInRange (some (p .default)) ≡ true
+  pub signals : Each (_< 16) (signalsOf (p .rules))
   pub distinct : Distinct (signalsOf (p .rules))
   pub scores : Each (λ (r : Rule). scoreInRange (p .operator) (r .score) ≡ true) (p .rules)
   pub room : p .operator ≡ Mul → length (p .rules) ≤ 8
 
 -- two different signals
-pub record ExclusionInRange (x : Exclusion) : Type 0 where
-  pub first : x .first < 16
-  pub second : x .second < 16
-  pub apart : x .first ≡ x .second → ⊥
+abbrev pub ExclusionInRange : Exclusion → Type 0
+ExclusionInRange x = exclusionInRange (x .first) (x .second) ≡ true
 
 -- T, at most 16 mentions, and those of the first n policies alone
 pub record ConditionInRange (n : ℕ) (c : Condition) : Type 0 where
-  pub threshold : within (negℤ (pos 200000)) (pos 200000) (c .threshold) ≡ true
+  pub threshold : thresholdInRange (c .threshold) ≡ true
   pub mentionsRoom : leafCount (c .expression) ≤ 16
   pub mentions : mentionsBelow n (c .expression) ≡ true
 

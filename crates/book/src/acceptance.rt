@@ -13,7 +13,7 @@ ghost use mathlib.Core.Bool.{_&&_};
 ghost use mathlib.Core.Path.{_≡_};
 ghost use Prim.Native.Nat.{_≤_};
 ghost use lib.Dec.{eqb};
-ghost use Rattle.arith.specs.Lists.{any};
+ghost use Rattle.arith.specs.Lists.{exists};
 ghost use Rattle.text.specs.Forms.{rule, exclusion};
 ghost use Rattle.book.specs.Acceptance.{mentionsBelow, excludes};
 ghost use Rattle.book.specs.Cells.{ForExclusions, ForExpression};
@@ -64,7 +64,7 @@ fn are_both(a: u32, b: u32, first: u32, second: u32) -> bool
 // The book has an exclusion of these two signals, in either order.
 fn has_exclusion(cells: &Cells, first: u32, second: u32) -> bool
     requires { ⌜ ExclusionsKept (now cells) ⌝ }
-    ensures { λ r. ⌜ ForExclusions (now (cells .entry)) (λ xs. r ≡ any (excludes first second) xs) ⌝ }
+    ensures { λ r. ⌜ ForExclusions (now (cells .entry)) (λ xs. r ≡ exists (excludes first second) xs) ⌝ }
 {
     let count = exclusion_count(cells);
     let mut i = 0;

@@ -5,10 +5,11 @@
 use text::CODE_COUNT;
 ghost use mathlib.Core.Path.{_≡_};
 ghost use lib.ListN.{length, getD};
-ghost use Rattle.peal.specs.Policies.{noRule, noExclusion, maskOf};
+ghost use Rattle.peal.specs.Policies.{maskOf};
 ghost use Rattle.text.specs.Codes.{codesOf};
 ghost use Rattle.book.specs.Cells.{ForPolicy, ForExclusions, ForCondition, storedPolicy};
 ghost use Rattle.book.specs.Ranges.{PolicyKept, RuleKept, ExclusionsKept, ExclusionKept, ConditionKept, CodeKept};
+ghost use Rattle.peal.specs.Standins.{noRule, noExclusion};
 
 // A policy has a rule for each signal at most.
 const MOST_RULES: usize = 16;

@@ -13,17 +13,17 @@ use Rattle.arith.specs.Lists.{countBelow}
 use Rattle.arith.proofs.Counts.{count-zero, count-suc}
 use Rattle.layout.specs.Judgement.{verdict}
 use Rattle.checks.specs.Checks.{permitted, gives, lowestFrom, lowestSet, choiceOf, choice, judgedEnd, judgedSets, Chosen, chosen}
-use Rattle.checks.specs.OnePass.{Pass, started, hasBoth, kept, takeSet, passFrom, OnePass}
+use Rattle.checks.specs.OnePass.{Pass, started, hasBoth, lowestWith, takeSet, passFrom, OnePass}
 use Rattle.checks.proofs.Search.{search-on, search-ends, found-among, none-yet}
 
 -- ---- one number more
 
 module _ (test : ℕ → Bool) (n : ℕ) where
-  lowest-next : lowestFrom (n + 1) 0 test ≡ kept (lowestFrom n 0 test) n (test n)
+  lowest-next : lowestFrom (n + 1) 0 test ≡ lowestWith (lowestFrom n 0 test) n (test n)
   unfolding lowestFrom
   lowest-next = go (lowestFrom n 0 test) refl
     where
-      go : (o : Option ℕ) → lowestFrom n 0 test ≡ o → lowestFrom (n + 1) 0 test ≡ kept o n (test n)
+      go : (o : Option ℕ) → lowestFrom n 0 test ≡ o → lowestFrom (n + 1) 0 test ≡ lowestWith o n (test n)
       go (some set) e = search-ends test n 1 0 set e
       go none e = search-on test n 1 0 e ∙ rw zero-add
 
@@ -34,9 +34,9 @@ module _ (test : ℕ → Bool) (n : ℕ) where
   found-last : (set : ℕ) → lowestFrom n 0 test ≡ none → lowestFrom (n + 1) 0 test ≡ some set → n ≤ set
   found-last set h e = omega (arith, found-among test 1 (0 + n) set (sym (search-on test n 1 0 h) ∙ e))
 
-kept-alone : (o : Option ℕ) (n : ℕ) → kept o n false ≡ o
-kept-alone (some set) n = refl
-kept-alone none n = refl
+lowest-alone : (o : Option ℕ) (n : ℕ) → lowestWith o n false ≡ o
+lowest-alone (some set) n = refl
+lowest-alone none n = refl
 
 -- ---- the pass
 
@@ -71,7 +71,7 @@ module _ (ws : List ℕ) where
     where
       go : (p : Bool) → permitted ws n ≡ p → takeSet ws n (after n) ≡ after (n + 1)
       go true e = simp (lowest-next, count-next, e)
-      go false e = simp (lowest-next, count-next, e, kept-alone, add-zero)
+      go false e = simp (lowest-next, count-next, e, lowest-alone, add-zero)
 
   goes-on : (n : ℕ) → Lacks n → WentOn (n + 1)
   goes-on n lacks = go (lowest true (n + 1)) (lowest false (n + 1)) refl refl

@@ -5,7 +5,7 @@ use mathlib.Core.List.{List}
 use mathlib.Core.Path.{_≡_, sym, ap, _∙_}
 use Rattle.answers.specs.Answers.{result}
 use Rattle.arith.proofs.Each.{each-none}
-use Rattle.arith.proofs.AnyEvery.{any-not-every}
+use Rattle.arith.proofs.EveryExists.{exists-not-every}
 use Rattle.arith.proofs.Members.{each-in, each-out, every-each}
 use Rattle.signals.specs.Sets.{inside, isPair}
 use Rattle.signals.proofs.SetOfLaws.{pair-not-empty}
@@ -23,7 +23,7 @@ use Rattle.checks.specs.Checks.{permitted}
 barred-else : (ws : List ℕ) (pairs : ℕ) → SoundWith ws pairs → (set : ℕ) → someLine (masksFrom ws 0 (pairs - 0)) set ≡ not (permitted ws set)
 unfolding permitted someLine
 barred-else ws pairs s set =
-    ap (λ (ms : List ℕ). someLine ms set) (sym (pair-run ws pairs s)) ∙ any-not-every (λ m. inside m set) (excluded (records ws))
+    ap (λ (ms : List ℕ). someLine ms set) (sym (pair-run ws pairs s)) ∙ exists-not-every (λ m. inside m set) (excluded (records ws))
 
 pub barred-group : (ws : List ℕ) (pairs group : ℕ) (table : List ℕ) → SoundWith ws pairs → GroupOf (someLine (masksFrom ws 0 (pairs - 0))) group table
     → GroupOf (λ set. not (permitted ws set)) group table

@@ -21,12 +21,10 @@ abbrev pub gives : List ℕ → Bool → ℕ → Bool
 gives ws true = λ set. permitted ws set && says ws set
 gives ws false = λ set. permitted ws set && not (says ws set)
 
--- the lowest of the `count` numbers from `from` on that passes the test, if there is one (`later` has a name so that it computes only if needed)
+-- the lowest of the `count` numbers from `from` on that passes the test, if there is one
 unfoldable pub lowestFrom : ℕ → ℕ → (ℕ → Bool) → Option ℕ
 lowestFrom zero from test = none
-lowestFrom (suc count) from test =
-    let later = lowestFrom count (from + 1) test in
-    cond (test from) (some from) later
+lowestFrom (suc count) from test = cond (test from) (some from) (lowestFrom count (from + 1) test)
 
 -- the lowest of all 65,536 signal sets that passes the test, if there is one
 unfoldable pub lowestSet : (ℕ → Bool) → Option ℕ

@@ -28,22 +28,20 @@ hasBoth (some y) none = false
 hasBoth none n = false
 
 -- the lowest set with an answer, after one set more, which gives it or does not: the first that gives it stays
-abbrev pub kept : Option ℕ → ℕ → Bool → Option ℕ
-kept (some lowest) set here = some lowest
-kept none set here = cond here (some set) none
+abbrev pub lowestWith : Option ℕ → ℕ → Bool → Option ℕ
+lowestWith (some lowest) set here = some lowest
+lowestWith none set here = cond here (some set) none
 
 -- one set more: left out if it has an excluded pair, and judged if not
 unfoldable pub takeSet : List ℕ → ℕ → Pass → Pass
 takeSet ws set p =
     let answer = says ws set in
-    cond (permitted ws set) (record { yes = kept (p .yes) set answer; no = kept (p .no) set (not answer); judged = p .judged + 1 }) p
+    cond (permitted ws set) (record { yes = lowestWith (p .yes) set answer; no = lowestWith (p .no) set (not answer); judged = p .judged + 1 }) p
 
--- the `count` sets from `from` on, until it has both (`later` has a name so that it computes only if needed)
+-- the `count` sets from `from` on, until it has both
 unfoldable pub passFrom : List ℕ → ℕ → ℕ → Pass → Pass
 passFrom ws zero from p = p
-passFrom ws (suc count) from p =
-    let later = passFrom ws count (from + 1) (takeSet ws from p) in
-    cond (hasBoth (p .yes) (p .no)) p later
+passFrom ws (suc count) from p = cond (hasBoth (p .yes) (p .no)) p (passFrom ws count (from + 1) (takeSet ws from p))
 
 -- of any words: they are declined, or the choice check's answer is that of the pass
 abbrev pub OnePass : Type 0

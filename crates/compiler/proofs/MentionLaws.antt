@@ -12,7 +12,7 @@ use borrow.Author.Tests.{eq-eqb, ne-eqb}
 use mir.Val.{boolByte}
 use Rattle.arith.specs.Trees.{value, joining}
 use Rattle.signals.specs.Sets.{setOf}
-use Rattle.layout.specs.Records.{Record, bit, lineKind, joinKind, policyKind}
+use Rattle.layout.specs.Records.{Record, oneIf, lineKind, joinKind, policyKind}
 use Rattle.layout.specs.Judgement.{ifAny}
 use Rattle.layout.specs.Nodes.{lineRecords}
 use Rattle.peal.specs.Policies.{MinMax, smaller, larger, maskOf}
@@ -41,7 +41,7 @@ at-most-kind smaller code e = omega arith
 at-most-kind larger code e = omega arith
 
 pub kind-of-bytes : (quiet turned : Bool) → 16 + boolByte quiet + 2 * boolByte turned ≡ policyKind quiet turned
-unfolding policyKind bit
+unfolding policyKind oneIf
 kind-of-bytes true true = refl
 kind-of-bytes true false = refl
 kind-of-bytes false true = refl

@@ -9,7 +9,8 @@ use lib.Seq.{drop-cons}
 use Rattle.signals.specs.Sets.{setOf}
 use Rattle.layout.specs.Records.{exclusionKind}
 use Rattle.layout.specs.Nodes.{exclusionRecords}
-use Rattle.peal.specs.Policies.{Exclusion, noExclusion}
+use Rattle.peal.specs.Policies.{Exclusion}
+use Rattle.peal.specs.Standins.{noExclusion}
 use Rattle.translation.specs.Translation.{pairMask}
 use Rattle.compiler.specs.Putting.{putRecord, putRecords}
 

@@ -11,7 +11,8 @@ use lib.Signed.{mag}
 use Rattle.arith.proofs.Each.{each-get}
 use Rattle.arith.proofs.Keep.{each-drop}
 use Rattle.arith.proofs.Signed.{mag-add}
-use Rattle.peal.specs.Policies.{Rule, Policy, smaller, larger, noRule}
+use Rattle.peal.specs.Policies.{Rule, Policy, smaller, larger}
+use Rattle.peal.specs.Standins.{noRule}
 use Rattle.peal.specs.SearchFindsLines.{scoreFits}
 use Rattle.peal.specs.Combining.{combinedOf}
 use Rattle.peal.specs.declared.Operator.{Operator}

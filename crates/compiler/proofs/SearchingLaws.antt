@@ -11,15 +11,15 @@ use lib.ListN.{length, getD, length-append}
 use lib.Signed.{mag, leZ, nonNeg}
 use mir.Syntax.{w32}
 use mir.Val.{Fits}
-use Rattle.arith.specs.Lists.{Each}
+use Rattle.arith.specs.Members.{Each}
 use Rattle.arith.proofs.Order.{leZ-trans}
 use Rattle.arith.proofs.Tests.{and-left, and-right, clash}
 use Rattle.arith.proofs.Whole.{times-one}
 use Rattle.signals.specs.Sets.{setOf}
-use Rattle.peal.specs.Policies.{Rule, Policy, smaller, larger, noRule, maskOf}
+use Rattle.peal.specs.Policies.{Rule, Policy, smaller, larger, maskOf}
+use Rattle.peal.specs.Standins.{noRule}
 use Rattle.peal.specs.Score.{ofTwo}
-use Rattle.peal.specs.Having.{has}
-use Rattle.peal.specs.Lines.{lines}
+use Rattle.peal.specs.Lines.{has, lines}
 use Rattle.peal.specs.Search.{foundFrom, foundSets}
 use Rattle.peal.specs.Combining.{combinedOf}
 use Rattle.peal.specs.declared.Operator.{Operator}

@@ -7,7 +7,7 @@ use native.Mathlib.Omega.{arith}
 use lib.IntN.{ℤ}
 use lib.ListN.{length, length-append, length-map}
 use Rattle.peal.specs.Policies.{Rule, Policy, maskOf}
-use Rattle.peal.specs.Having.{has}
+use Rattle.peal.specs.Lines.{has}
 use Rattle.peal.specs.declared.Operator.{Operator}
 use Rattle.compiler.specs.Putting.{putRecord, putRecords, lineAt, linesUpTo, putSets}
 use Rattle.compiler.specs.Planning.{restOf, nextRule}

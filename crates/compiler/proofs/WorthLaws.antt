@@ -11,20 +11,19 @@ use lib.ListN.{length}
 use lib.Pow.{pow-add}
 use borrow.Author.Tests.{leb-true, le-leb, lt-leb, ltb-true, le-ltb}
 use lib.Signed.{leZ, ltZ}
-use Rattle.arith.specs.Lists.{any}
+use Rattle.arith.specs.Lists.{exists}
 use Rattle.arith.proofs.Tests.{and-left, same-answer}
 use Rattle.arith.proofs.Whole.{times-assoc, times-one}
 use Rattle.peal.specs.Policies.{Rule, MinMax, smaller, larger}
-use Rattle.peal.specs.Score.{total, product, scaledProduct, scaled, ofTwo}
-use Rattle.peal.specs.Lines.{sumAbove, productAtMost}
-use Rattle.peal.specs.Having.{has}
+use Rattle.peal.specs.Score.{total, scoreProduct, scaledProduct, scaled, ofTwo}
+use Rattle.peal.specs.Lines.{scoreAbove, scoreAtMost, has}
 use Rattle.peal.specs.SearchFindsLines.{RulesFit}
 use Rattle.peal.specs.Combining.{combinedOf}
 use Rattle.peal.specs.declared.Operator.{Operator}
 use Rattle.peal.specs.declared.Operator.the-variants.{Min, Max, Sum, Mul}
 use Rattle.peal.proofs.HavingLaws.{product-natural}
 use Rattle.peal.proofs.TwoLaws.{larger-above, smaller-at-most, two-assoc, two-swap, two-itself}
-use Rattle.book.specs.Acceptance.{within}
+use Rattle.limits.specs.Limits.{within, thresholdInRange}
 use Rattle.compiler.specs.Worth.{start, worth, clamped, limitOf, reachedOf}
 
 -- ---- an operator takes three scores in any grouping
@@ -86,8 +85,8 @@ not-below-zero : (a m : ℕ) → 0 < m → leZ (pos a) (negℤ (pos m)) ≡ fals
 not-below-zero a zero h = absurd (omega arith)
 not-below-zero a (suc m) h = refl
 
-pub product-worth : (X : List Rule) → product X ≡ worth Mul X
-unfolding product worth start combinedOf
+pub product-worth : (X : List Rule) → scoreProduct X ≡ worth Mul X
+unfolding scoreProduct worth start combinedOf
 product-worth [] = refl
 product-worth (r ∷ X) = ap (λ (z : ℤ). r .score *ℤ z) (product-worth X)
 
@@ -109,33 +108,33 @@ mul-limit n k (pos t) few h = rw (le-ltb t 0 (omega arith)) (go (ltb 100 t) refl
     go false e = sym (same-parts n k t few)
 
 -- thresholds lie between the starts of max and min
-not-above-start : (t : ℤ) → within (negℤ (pos 200000)) (pos 200000) t ≡ true → ltZ t (start Max) ≡ false
+not-above-start : (t : ℤ) → thresholdInRange t ≡ true → ltZ t (start Max) ≡ false
 unfolding within start
 not-above-start (pos t) h = refl
 not-above-start (negsuc t) h = le-ltb 200000 t (omega (arith, leb-true t 199999 (and-left (leb t 199999) true h)))
 
-not-at-start : (t : ℤ) → within (negℤ (pos 200000)) (pos 200000) t ≡ true → leZ (start Min) t ≡ false
+not-at-start : (t : ℤ) → thresholdInRange t ≡ true → leZ (start Min) t ≡ false
 unfolding within start
 not-at-start (pos t) h = lt-leb 200001 t (omega (arith, leb-true t 200000 h))
 not-at-start (negsuc t) h = refl
 
-max-any : (t : ℤ) → ltZ t (start Max) ≡ false → (X : List Rule) → ltZ t (worth Max X) ≡ any (λ r. ltZ t (r .score)) X
+max-exists : (t : ℤ) → ltZ t (start Max) ≡ false → (X : List Rule) → ltZ t (worth Max X) ≡ exists (scoreAbove t) X
 unfolding worth combinedOf
-max-any t h [] = h
-max-any t h (r ∷ X) = larger-above t (r .score) (worth Max X) ∙ ap (λ (b : Bool). ltZ t (r .score) || b) (max-any t h X)
+max-exists t h [] = h
+max-exists t h (r ∷ X) = larger-above t (r .score) (worth Max X) ∙ ap (λ (b : Bool). ltZ t (r .score) || b) (max-exists t h X)
 
-min-any : (t : ℤ) → leZ (start Min) t ≡ false → (X : List Rule) → leZ (worth Min X) t ≡ any (λ r. leZ (r .score) t) X
+min-exists : (t : ℤ) → leZ (start Min) t ≡ false → (X : List Rule) → leZ (worth Min X) t ≡ exists (scoreAtMost t) X
 unfolding worth combinedOf
-min-any t h [] = h
-min-any t h (r ∷ X) = smaller-at-most t (r .score) (worth Min X) ∙ ap (λ (b : Bool). leZ (r .score) t || b) (min-any t h X)
+min-exists t h [] = h
+min-exists t h (r ∷ X) = smaller-at-most t (r .score) (worth Min X) ∙ ap (λ (b : Bool). leZ (r .score) t || b) (min-exists t h X)
 
 -- a set is worth what its limit asks exactly if it has the property
-pub worth-has : (o : Operator) (t : ℤ) (X : List Rule) → RulesFit o X → within (negℤ (pos 200000)) (pos 200000) t ≡ true
+pub worth-has : (o : Operator) (t : ℤ) (X : List Rule) → RulesFit o X → thresholdInRange t ≡ true
     → reachedOf o (limitOf o t (length X)) (worth o X) ≡ has o t X
-unfolding reachedOf limitOf has sumAbove productAtMost scaledProduct scaled
+unfolding reachedOf limitOf has scaledProduct scaled
 worth-has Sum t X f h = ap (ltZ t) (sym (total-worth X))
-worth-has Max t X f h = max-any t (not-above-start t h) X
-worth-has Min t X f h = min-any t (not-at-start t h) X
+worth-has Max t X f h = max-exists t (not-above-start t h) X
+worth-has Min t X f h = min-exists t (not-at-start t h) X
 worth-has Mul t X f h =
     let n = product-natural X (f .scores) in
     ap (λ (z : ℤ). leZ (z *ℤ pos 100) (limitOf Mul t (length X))) (sym (product-worth X) ∙ n .1)

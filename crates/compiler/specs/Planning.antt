@@ -3,21 +3,22 @@ use Prim.Native.Nat.{ℕ, _+_, _-_, _*_, _≤_, _<_}
 use mathlib.Core.Bool.{true}
 use mathlib.Core.List.{List, [], _∷_}
 use mathlib.Core.Path.{_≡_}
-use lib.IntN.{ℤ, pos, negℤ}
+use lib.IntN.{ℤ, pos}
 use lib.ListN.{length, getD, set, drop}
-use Rattle.arith.specs.Lists.{Each}
+use Rattle.arith.specs.Members.{Each}
 use Rattle.signals.specs.Sets.{setOf}
-use Rattle.peal.specs.Policies.{Rule, Policy, noRule}
+use Rattle.peal.specs.Policies.{Rule, Policy}
+use Rattle.peal.specs.Standins.{noRule}
 use Rattle.peal.specs.declared.Operator.{Operator}
 use Rattle.peal.specs.declared.Operator.the-variants.{Mul}
-use Rattle.book.specs.Acceptance.{within, scoreInRange}
+use Rattle.limits.specs.Limits.{scoreInRange, thresholdInRange}
 use Rattle.book.specs.Cells.{storedPolicy}
 use Rattle.book.specs.declared.cells.Policy.{Policy as StoredPolicy}
 use Rattle.compiler.specs.Worth.{worth, limitOf}
 
 -- T is in range
 abbrev pub ThresholdFits : ℤ → Type 0
-ThresholdFits t = within (negℤ (pos 200000)) (pos 200000) t ≡ true
+ThresholdFits t = thresholdInRange t ≡ true
 
 -- the k rules of lowest rank, of rules in falling rank
 unfoldable pub restOf : ℕ → List Rule → List Rule

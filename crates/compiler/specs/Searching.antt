@@ -6,8 +6,7 @@ use mathlib.Core.Path.{_≡_}
 use lib.IntN.{ℤ}
 use lib.ListN.{length}
 use Rattle.peal.specs.Policies.{Rule, Policy, maskOf}
-use Rattle.peal.specs.Lines.{lines}
-use Rattle.peal.specs.Having.{has}
+use Rattle.peal.specs.Lines.{lines, has}
 use Rattle.peal.specs.Search.{foundFrom}
 use Rattle.peal.specs.declared.Operator.{Operator}
 use Rattle.book.specs.Ranges.{PolicyInRange}

@@ -4,7 +4,7 @@ use crate::writing::put_record;
 ghost use mathlib.Core.Path.{_≡_};
 ghost use Prim.Native.Nat.{_<_};
 ghost use lib.ListN.{length, getD};
-ghost use Rattle.peal.specs.Policies.{noExclusion};
+ghost use Rattle.peal.specs.Standins.{noExclusion};
 ghost use Rattle.translation.specs.Translation.{pairMask};
 ghost use Rattle.book.specs.Cells.{ForExclusions};
 ghost use Rattle.book.specs.Ranges.{ExclusionsKept};

@@ -2,7 +2,7 @@
 use mathlib.Core.Path.{_≡_, refl}
 use lib.IntN.{pos, negsuc}
 use Rattle.answers.specs.Answers.{result, refused}
-use Rattle.layout.specs.Records.{bit}
+use Rattle.layout.specs.Records.{oneIf}
 use Rattle.checks.specs.Checks.{always, both, differ, declined, first, second}
 use Rattle.exports.specs.Packing.{packed, countsValue, scoreValue, remainderAfter, itself, answersValue, choiceValue, chosenValue, packedComparison}
 use Rattle.exports.specs.Unpacking.{codeIn, valueIn, ofFirst, numberOf, unpacked, scoreIn, choiceIn, chosenIn, whichOf, comparisonIn}
@@ -13,7 +13,7 @@ unfolding packed countsValue
 counted = refl
 
 -- a signal repeated in line 3
-repeated : packed bit (refused 6 3) ≡ 102
+repeated : packed oneIf (refused 6 3) ≡ 102
 unfolding packed
 repeated = refl
 

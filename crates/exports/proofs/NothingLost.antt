@@ -9,7 +9,7 @@ use lib.IntN.{ℤ, pos, natAbs, _+ℤ_, _-ℤ_, +ℤ-negℤ-cancel}
 use lib.ListN.{length}
 use borrow.Author.Tests.{le-leb, lt-leb, ne-eqb}
 use Rattle.answers.specs.Answers.{Answer, result, refused}
-use Rattle.layout.specs.Records.{bit}
+use Rattle.layout.specs.Records.{oneIf}
 use Rattle.rod.specs.Reading.{rodAnswer}
 use Rattle.rod.specs.Traversing.{traversed, answerCount}
 use Rattle.checks.specs.Checks.{Choice, always, never, both, Chosen, chosen, Comparison, alike, differ, declined, first, second, comparison}
@@ -74,8 +74,8 @@ counts-again n h =
     let c : (n .policies + fromBit16 * n .conditions) / fromBit16 ≡ n .conditions = omega arith in
     rw (p, c) refl
 
-yes-again : (b : Bool) → yesIn (bit b) ≡ b
-unfolding yesIn bit
+yes-again : (b : Bool) → yesIn (oneIf b) ≡ b
+unfolding yesIn oneIf
 yes-again true = refl
 yes-again false = refl
 
@@ -148,10 +148,10 @@ pub nothing-lost : NothingLost
 nothing-lost =
     record {
       check = λ book. told-again countsValue countsIn (omega arith) (omega arith) (checked book) (checking book) (λ n e. counts-again n (counts-small book n e .0));
-      decide = λ book condition set. told-again bit yesIn (omega arith) (omega arith) (scoredAnswer book condition set) (deciding book condition set) (λ b e. yes-again b);
+      decide = λ book condition set. told-again oneIf yesIn (omega arith) (omega arith) (scoredAnswer book condition set) (deciding book condition set) (λ b e. yes-again b);
       score = λ book condition set lent. told-again scoreValue _ (omega arith) (omega arith) (shownAnswer book condition set) (scoring book condition set) (score-again book condition set lent);
       compile = λ book condition lent. told-again itself itself (omega arith) (omega arith) (returned (compiled book condition lent)) (compiling book condition lent) (λ n e. refl);
-      read = λ words set. told-again bit yesIn (omega arith) (omega arith) (rodAnswer words set) (rod-reading words set) (λ b e. yes-again b);
+      read = λ words set. told-again oneIf yesIn (omega arith) (omega arith) (rodAnswer words set) (rod-reading words set) (λ b e. yes-again b);
       traverse = λ words sets answers few. told-again answersValue itself (omega arith) (omega arith) (answerCount (traversed words sets answers)) (traversing words sets answers) (answers-again words sets answers few);
       choose = λ words. told-again chosenValue chosenIn (omega arith) (omega arith) (chosen words) (choosing words) (λ c e. chosen-again c (chosen-fits words c e));
       compare = λ one two. compared-again (length one / 4) (length two / 4) (comparison one two) (comparing one two);

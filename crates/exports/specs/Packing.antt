@@ -56,7 +56,7 @@ unfoldable pub packed : {A : Type 0} → (A → ℕ) → Answer A → ℕ
 packed valueOf (result a) = asOne 0 (valueOf a)
 packed valueOf (refused number value) = asOne number value
 
--- ---- the values of results; for yes and no it is `bit`
+-- ---- the values of results; for yes and no it is `oneIf`
 
 -- the check of a book: policies, and from bit 16 of the number on conditions
 unfoldable pub countsValue : Counts → ℕ

@@ -3,7 +3,7 @@
 // lent number, and only a traverse the lent answers.
 ghost use mathlib.Core.Path.{_≡_};
 ghost use Prim.Native.Nat.{_+_, _-_, _*_, _^_, _≤_, _<_};
-ghost use Rattle.layout.specs.Records.{bit};
+ghost use Rattle.layout.specs.Records.{oneIf};
 ghost use Rattle.layout.specs.Meaning.{faultNumber, faultValue};
 ghost use Rattle.rod.specs.Reading.{rodAnswer};
 ghost use Rattle.checks.specs.Checks.{chosen, comparison};
@@ -13,16 +13,16 @@ ghost use Rattle.score.specs.Decisions.{scoredAnswer};
 ghost use Rattle.exports.specs.Packing.{fromBit5, fromBit16, fromBit32, fromBit48, valueEnd, asOne, packed};
 ghost use Rattle.exports.specs.Packing.{countsValue, ScoreTold, CompilingTold, TraverseTold, chosenValue, packedComparison};
 
-// The weight of a value in the number: it begins at bit 5, after the code.
+// The weight of a value in the number: it begins at oneIf 5, after the code.
 const FROM_BIT_5: u64 = 1 << 5;
 
-// In a value: the weight of what stands from bit 16 of the number on.
+// In a value: the weight of what stands from oneIf 16 of the number on.
 const FROM_BIT_16: u64 = (1 << 16) / FROM_BIT_5;
 
-// The same from bit 32 on.
+// The same from oneIf 32 on.
 const FROM_BIT_32: u64 = (1 << 32) / FROM_BIT_5;
 
-// And from bit 48 on.
+// And from oneIf 48 on.
 const FROM_BIT_48: u64 = (1 << 48) / FROM_BIT_5;
 
 // Beyond every value: 64 bits, less those of the code.
@@ -46,7 +46,7 @@ const UNEQUAL: u64 = 11;
 // By so much the code of a refusal is higher where it is the second listing's.
 const OF_SECOND: u64 = 16;
 
-// A result by its value, which has all its bits from bit 5 on if it is below 2 to the 59.
+// A result by its value, which has all its bits from oneIf 5 on if it is below 2 to the 59.
 fn accepted(value: u64) -> u64
     requires { ⌜ value < valueEnd ⌝ }
     ensures { λ r. ⌜ r ≡ asOne 0 value ⌝ }
@@ -113,7 +113,7 @@ pub extern "C" fn cerahupo_check(bytes: &[u8]) -> u64
 
 #[no_mangle]
 pub extern "C" fn cerahupo_decide(bytes: &[u8], condition: u32, set: u16) -> u64
-    ensures { λ r. ⌜ r ≡ packed bit (scoredAnswer (now (bytes .entry)) condition set) ⌝ }
+    ensures { λ r. ⌜ r ≡ packed oneIf (scoredAnswer (now (bytes .entry)) condition set) ⌝ }
 {
     let d = score::decide(bytes, condition, set);
     match d {
@@ -155,7 +155,7 @@ pub extern "C" fn cerahupo_compile(bytes: &[u8], condition: u32, words: &mut [u3
 
 #[no_mangle]
 pub extern "C" fn cerahupo_read(words: &[u32], set: u16) -> u64
-    ensures { λ r. ⌜ r ≡ packed bit (rodAnswer (now (words .entry)) set) ⌝ }
+    ensures { λ r. ⌜ r ≡ packed oneIf (rodAnswer (now (words .entry)) set) ⌝ }
 {
     let d = rod::decide(words, set);
     match d {
@@ -181,7 +181,7 @@ pub extern "C" fn cerahupo_traverse(words: &[u32], sets: &[u16], answers: &mut [
     }
 }
 
-// A choice by its value below bit 48, and how many sets were judged.
+// A choice by its value below oneIf 48, and how many sets were judged.
 fn accepted_choice(value: u64, judged: u32) -> u64
     requires { ⌜ (value < fromBit48) × (0 < judged) × (judged ≤ 2 ^ 16) ⌝ }
     ensures { λ r. ⌜ r ≡ asOne 0 (value + fromBit48 * (judged - 1)) ⌝ }

@@ -6,8 +6,8 @@ use mathlib.Core.Path.{_≡_, refl, sym, ap, ap₂, subst, _∙_}
 use native.Mathlib.Nat.{add-zero, zero-add, suc-add}
 use native.Mathlib.Omega.{arith}
 use lib.ListN.{length, getD}
-use Rattle.arith.specs.Lists.{any}
-use Rattle.arith.proofs.AnyEvery.{any-append}
+use Rattle.arith.specs.Lists.{exists}
+use Rattle.arith.proofs.EveryExists.{exists-append}
 use Rattle.arith.proofs.Each.{each-front, each-rest}
 use Rattle.rod.specs.Values.{lineAt, AllSets}
 use Rattle.groups.specs.Groups.{masksFrom, MasksAt, tells, maskReaches, Added, Gathered}
@@ -47,10 +47,10 @@ module _ (ws : List ℕ) (from mid end : ℕ) (h : from ≤ mid) (g : mid ≤ en
         room = s .room;
         told = λ x l.
             s .told x l
-            ∙ ap (λ (t : Bool). t || any (maskReaches 0 group x) (masksFrom ws mid (end - mid))) (f .told x l)
-            ∙ or-assoc (tells table x) (any (maskReaches 0 group x) (masksFrom ws from (mid - from))) (any (maskReaches 0 group x) (masksFrom ws mid (end - mid)))
+            ∙ ap (λ (t : Bool). t || exists (maskReaches 0 group x) (masksFrom ws mid (end - mid))) (f .told x l)
+            ∙ or-assoc (tells table x) (exists (maskReaches 0 group x) (masksFrom ws from (mid - from))) (exists (maskReaches 0 group x) (masksFrom ws mid (end - mid)))
             ∙ ap (λ (t : Bool). tells table x || t)
-            (sym (ap (any (maskReaches 0 group x)) in-two ∙ any-append (maskReaches 0 group x) (masksFrom ws from (mid - from)) (masksFrom ws mid (end - mid))));
+            (sym (ap (exists (maskReaches 0 group x)) in-two ∙ exists-append (maskReaches 0 group x) (masksFrom ws from (mid - from)) (masksFrom ws mid (end - mid))));
       }
 
 -- ---- record by record
@@ -60,7 +60,7 @@ pub record Gathering (ws : List ℕ) (from end group : ℕ) (table left : List �
   pub more : MasksAt ws i end
   pub room : length left ≡ 16
   pub same : (x : ℕ) → x < 1024
-      → (tells left x || any (maskReaches 0 group x) (masksFrom ws i (end - i))) ≡ (tells table x || any (maskReaches 0 group x) (masksFrom ws from (end - from)))
+      → (tells left x || exists (maskReaches 0 group x) (masksFrom ws i (end - i))) ≡ (tells table x || exists (maskReaches 0 group x) (masksFrom ws from (end - from)))
 
 pub gathered-none : (ws : List ℕ) (from end group : ℕ) (table : List ℕ) → length table ≡ 16 → MasksAt ws from end → Gathering ws from end group table table from
 gathered-none ws from end group table room m = record { more = m; room = room; same = λ x h. refl }
@@ -90,9 +90,9 @@ module _ {ws : List ℕ} {from end group : ℕ} {table left : List ℕ} {i : ℕ
         more = masks-after (g .more) some;
         room = a .room;
         same = λ x h.
-            ap (λ (t : Bool). t || any (maskReaches 0 group x) (masksFrom ws (i + 1) (end - (i + 1)))) (a .told x h)
-            ∙ or-assoc (tells left x) (maskReaches 0 group x (lineAt ws i)) (any (maskReaches 0 group x) (masksFrom ws (i + 1) (end - (i + 1))))
-            ∙ ap (λ (ms : List ℕ). tells left x || any (maskReaches 0 group x) ms) (sym (first-mask (g .more) some))
+            ap (λ (t : Bool). t || exists (maskReaches 0 group x) (masksFrom ws (i + 1) (end - (i + 1)))) (a .told x h)
+            ∙ or-assoc (tells left x) (maskReaches 0 group x (lineAt ws i)) (exists (maskReaches 0 group x) (masksFrom ws (i + 1) (end - (i + 1))))
+            ∙ ap (λ (ms : List ℕ). tells left x || exists (maskReaches 0 group x) ms) (sym (first-mask (g .more) some))
             ∙ g .same x h;
       }
 
@@ -104,7 +104,7 @@ module _ {ws : List ℕ} {from end group : ℕ} {table left : List ℕ} {i : ℕ
         room = g .room;
         told = λ x h.
             sym (or-false (tells left x))
-            ∙ ap (λ (n : ℕ). tells left x || any (maskReaches 0 group x) (masksFrom ws i n)) (sym no-more)
+            ∙ ap (λ (n : ℕ). tells left x || exists (maskReaches 0 group x) (masksFrom ws i n)) (sym no-more)
             ∙ g .same x h;
       }
     where

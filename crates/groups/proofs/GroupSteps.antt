@@ -8,7 +8,7 @@ use native.Mathlib.Omega.{arith}
 use lib.ListN.{length, getD}
 use Rattle.answers.specs.Answers.{result}
 use Rattle.arith.specs.Tables.{Written}
-use Rattle.arith.specs.Trees.{taken, run}
+use Rattle.arith.specs.Trees.{joinedLast, run}
 use Rattle.signals.specs.Sets.{present}
 use Rattle.layout.specs.Records.{Join, Kind, policy, exclusion, kindOf, kinds}
 use Rattle.layout.specs.Judgement.{noRecord, soFarAfter, verdict}
@@ -118,7 +118,7 @@ module _ (ws : List ℕ) (group at : ℕ) (values : List ℕ) (height : ℕ) (lt
     values-room = omega (arith, u .few, u .atMost, u .level)
 
     pub past-group-join : (left : List ℕ) → JoinPut o (height - 2) values left → GroupUnderway ws group (nodeEnd ws at) left (height - 1)
-    unfolding soFarAfter nodeThen run taken node-after column
+    unfolding soFarAfter nodeThen run joinedLast node-after column
     past-group-join left s =
         record {
           within = u .within;

@@ -9,9 +9,9 @@ use lib.Bits.{bitAnd, bitOr}
 use lib.Dec.{eqb}
 use lib.ListN.{length, getD, replicate}
 use borrow.Author.Tests.{eqb-true}
-use Rattle.arith.specs.Lists.{any, every, below}
+use Rattle.arith.specs.Lists.{exists, every, below}
 use Rattle.arith.specs.Tables.{Written}
-use Rattle.arith.proofs.AnyEvery.{any-either}
+use Rattle.arith.proofs.EveryExists.{exists-either}
 use Rattle.arith.proofs.Below.{every-below}
 use Rattle.arith.proofs.Order.{le-or-lt}
 use Rattle.signals.specs.Sets.{present, inside}
@@ -97,7 +97,7 @@ reached-more s masks group table left r p =
       told = λ x h.
           p .told x h
           ∙ ap₂ (λ (a b : Bool). a || b) (r .told x h) (r .told (without s x) (omega (arith, without-less s x)))
-          ∙ sym (any-either (maskReaches (suc s) group x) (maskReaches s group x) (maskReaches s group (without s x)) (mask-more s group x) masks);
+          ∙ sym (exists-either (maskReaches (suc s) group x) (maskReaches s group x) (maskReaches s group (without s x)) (mask-more s group x) masks);
     }
 
 -- ---- from the empty table to all ten signals
@@ -122,14 +122,14 @@ no-bits x = ap (λ (w : ℕ). present w (x % 64)) (zeros 16 (x / 64)) ∙ presen
 pub reached-none : (ws : List ℕ) (from end group : ℕ) (table : List ℕ) → Gathered ws from end group (replicate 16 0) table
     → Reached 0 (masksFrom ws from (end - from)) group table
 reached-none ws from end group table g =
-    record { room = g .room; told = λ x h. g .told x h ∙ ap (λ (t : Bool). t || any (maskReaches 0 group x) (masksFrom ws from (end - from))) (no-bits x) }
+    record { room = g .room; told = λ x h. g .told x h ∙ ap (λ (t : Bool). t || exists (maskReaches 0 group x) (masksFrom ws from (end - from))) (no-bits x) }
 
 -- no record at all
 pub none-inside : (ws : List ℕ) (from end group : ℕ) → end ≤ from → GroupOf (someLine (masksFrom ws from (end - from))) group (replicate 16 0)
 unfolding someLine tells masksFrom
 none-inside ws from end group h k b j l =
     ap₂ (λ (n m : ℕ). present (getD (replicate 16 0) n 0) m) (block-of k j l) (bit-of k j l) ∙ no-bits (64 * k + j)
-    ∙ sym (ap (λ (n : ℕ). any (λ m. inside m (64 * (16 * group + k) + j)) (masksFrom ws from n)) no-more)
+    ∙ sym (ap (λ (n : ℕ). exists (λ m. inside m (64 * (16 * group + k) + j)) (masksFrom ws from n)) no-more)
   where
     no-more : end - from ≡ 0
     no-more = omega arith
@@ -145,7 +145,7 @@ reached-all masks group table within sets r k b j h =
     place : (g n m : ℕ) → 1024 * g + (64 * n + m) ≡ 64 * (16 * g + n) + m
     place g n m = omega arith
 
-    go : (ms : List ℕ) → AllSets ms → any (maskReaches 10 group (64 * k + j)) ms ≡ any (λ m. inside m (64 * (16 * group + k) + j)) ms
+    go : (ms : List ℕ) → AllSets ms → exists (maskReaches 10 group (64 * k + j)) ms ≡ exists (λ m. inside m (64 * (16 * group + k) + j)) ms
     go [] s = refl
     go (m ∷ ms) s =
         ap₂ (λ (a c : Bool). a || c)

@@ -5,7 +5,7 @@ use mathlib.Core.List.{List, [], _∷_}
 use mathlib.Core.Path.{_≡_}
 use lib.Dec.{eqb}
 use lib.ListN.{length, getD}
-use Rattle.arith.specs.Lists.{any}
+use Rattle.arith.specs.Lists.{exists}
 use Rattle.signals.specs.Sets.{present, inside}
 use Rattle.blocks.specs.Blocks.{BlockOf, without}
 use Rattle.answers.specs.Answers.{result}
@@ -55,7 +55,7 @@ maskReaches n group x mask = inside (mask / 1024) group && reaches n (mask % 102
 -- a table tells of each set whether some mask reaches it below signal n
 pub record Reached (n : ℕ) (masks : List ℕ) (group : ℕ) (table : List ℕ) : Type 0 where
   pub room : length table ≡ 16
-  pub told : (x : ℕ) → x < 1024 → tells table x ≡ any (maskReaches n group x) masks
+  pub told : (x : ℕ) → x < 1024 → tells table x ≡ exists (maskReaches n group x) masks
 
 -- a mask is added to a table, at the group's set with just its ten lowest signals, if the group has its six highest
 pub record Added (mask group : ℕ) (table left : List ℕ) : Type 0 where
@@ -65,7 +65,7 @@ pub record Added (mask group : ℕ) (table left : List ℕ) : Type 0 where
 -- the masks of the records from one index up to another are added to a table, each so
 pub record Gathered (ws : List ℕ) (from end group : ℕ) (table left : List ℕ) : Type 0 where
   pub room : length left ≡ 16
-  pub told : (x : ℕ) → x < 1024 → tells left x ≡ (tells table x || any (maskReaches 0 group x) (masksFrom ws from (end - from)))
+  pub told : (x : ℕ) → x < 1024 → tells left x ≡ (tells table x || exists (maskReaches 0 group x) (masksFrom ws from (end - from)))
 
 -- each set of a table that has the signal also gets what is told of the set without it
 pub record Spread (signal : ℕ) (table left : List ℕ) : Type 0 where

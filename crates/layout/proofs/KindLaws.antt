@@ -7,7 +7,7 @@ use lib.Bits.{bitAnd}
 use lib.Dec.{eqb}
 use borrow.Author.Tests.{eqb-true, ne-eqb}
 use mir.Val.{boolByte}
-use Rattle.layout.specs.Records.{Join, and, or, Kind, policy, line, exclusion, unknown, bit, lineKind, joinKind, exclusionKind, policyKind, kindOf}
+use Rattle.layout.specs.Records.{Join, and, or, Kind, policy, line, exclusion, unknown, oneIf, lineKind, joinKind, exclusionKind, policyKind, kindOf}
 
 -- ---- what a number says of the kind
 
@@ -16,7 +16,7 @@ unfolding kindOf lineKind
 kind-line = refl
 
 pub kind-policy : (q t : Bool) → kindOf (policyKind q t) ≡ policy q t
-unfolding kindOf lineKind joinKind policyKind bit
+unfolding kindOf lineKind joinKind policyKind oneIf
 kind-policy true true = refl
 kind-policy true false = refl
 kind-policy false true = refl
@@ -28,7 +28,7 @@ kind-join and = refl
 kind-join or = refl
 
 pub kind-exclusion : kindOf exclusionKind ≡ exclusion
-unfolding kindOf lineKind joinKind policyKind bit exclusionKind
+unfolding kindOf lineKind joinKind policyKind oneIf exclusionKind
 kind-exclusion = refl
 
 -- a policy's flags are the two lowest bits of its number
@@ -36,7 +36,7 @@ abbrev flagged : ℕ → Kind
 flagged k = policy (not (eqb (bitAnd k 1) 0)) (not (eqb (bitAnd k 2) 0))
 
 pub policy-number : (k : ℕ) → 16 ≤ k → k < 20 → flagged k ≡ kindOf k
-unfolding kindOf lineKind joinKind exclusionKind policyKind bit
+unfolding kindOf lineKind joinKind exclusionKind policyKind oneIf
 policy-number k l h = let e : 16 + (k - 16) ≡ k = omega arith in subst (λ (n : ℕ). flagged n ≡ kindOf n) e (go (k - 16) (omega arith))
   where
     go : (m : ℕ) → m < 4 → flagged (16 + m) ≡ kindOf (16 + m)
@@ -47,7 +47,7 @@ policy-number k l h = let e : 16 + (k - 16) ≡ k = omega arith in subst (λ (n 
     go (suc (suc (suc (suc m)))) h = absurd (omega arith)
 
 pub no-number : (k : ℕ) → (k ≡ 4 → ⊥) → (k ≡ 2 → ⊥) → (k ≡ 3 → ⊥) → (k ≡ 5 → ⊥) → (16 ≤ k → k < 20 → ⊥) → unknown ≡ kindOf k
-unfolding kindOf lineKind joinKind exclusionKind policyKind bit
+unfolding kindOf lineKind joinKind exclusionKind policyKind oneIf
 no-number k l a o e p =
     simp (
       ne-eqb k 4 l,
@@ -64,7 +64,7 @@ no-number k l a o e p =
 
 -- a policy's number, from its flags as numbers
 pub kind-of-bytes : (quiet turned : Bool) → 16 + 1 * boolByte quiet + 2 * boolByte turned ≡ policyKind quiet turned
-unfolding policyKind bit
+unfolding policyKind oneIf
 kind-of-bytes true true = refl
 kind-of-bytes true false = refl
 kind-of-bytes false true = refl

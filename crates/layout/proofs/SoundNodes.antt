@@ -12,11 +12,12 @@ use Rattle.answers.specs.Answers.{result}
 use Rattle.answers.proofs.Results.{required}
 use Rattle.arith.specs.Trees.{leaf, join, value, joining, postfix}
 use Rattle.arith.proofs.Tests.{and-left, and-right}
+use Rattle.arith.specs.Leaves.{leafCount}
 use Rattle.signals.specs.Sets.{isSet, inside}
 use Rattle.layout.specs.Records.{Record, records, Kind, policy, line, exclusion, kindOf, isLine, kinds, unknown}
 use Rattle.layout.specs.Judgement.{SoFar, noRecord, insidePolicy, keepsLayout, soFarAfter, judged, verdict}
 use Rattle.layout.specs.Nodes.{ListedNode, ListedTree, leadingLines, nodeThen, nodes, pairThen, excluded}
-use Rattle.layout.specs.WellFormed.{LinesFit, TreeFits, policyCount, ArePairs, PairsFit, WellFormed}
+use Rattle.layout.specs.WellFormed.{LinesFit, TreeFits, ArePairs, PairsFit, WellFormed}
 use Rattle.layout.proofs.KeptLaws.{kept-line, sound-step, sound-judged, kept-policy, kept-join, kept-exclusion}
 
 -- ---- pairs
@@ -98,17 +99,17 @@ AllFit (t ∷ ts) = TreeFits t × AllFit ts
 
 abbrev policiesIn : List ListedTree → ℕ
 policiesIn [] = 0
-policiesIn (t ∷ ts) = policiesIn ts + policyCount t
+policiesIn (t ∷ ts) = policiesIn ts + leafCount t
 
 -- a tree that fits, of at most 16 policies, with these nodes
 pub record TreeOf (ns : List ListedNode) : Type 0 where
   pub tree : ListedTree
   pub fits : TreeFits tree
-  pub atMost : policyCount tree ≤ 16
+  pub atMost : leafCount tree ≤ 16
   pub same : ns ≡ postfix tree
 
 grow : (ns : List ListedNode) (ts : List ListedTree) (v p : ℕ) → length ts ≡ v → policiesIn ts ≡ p → p ≤ 16 → AllFit ts → WellFormed v p ns → TreeOf (stacked ts ++ ns)
-unfolding postfix policyCount
+unfolding postfix leafCount
 grow [] [] v p el ep le g h = absurd (omega arith)
 grow [] (t ∷ []) v p el ep le g h = record { tree = t; fits = g .0; atMost = omega arith; same = append-nil (postfix t) }
 grow [] (t ∷ s ∷ ts) v p el ep le g h = absurd (omega arith)

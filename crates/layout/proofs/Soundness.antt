@@ -10,11 +10,12 @@ use lib.ListN.{length}
 use borrow.Author.Tests.{eq-eqb, ne-eqb, le-leb}
 use Rattle.answers.specs.Answers.{result}
 use Rattle.arith.specs.Trees.{leaf, join, value, joining, postfix}
+use Rattle.arith.specs.Leaves.{leafCount}
 use Rattle.signals.specs.Sets.{isSet, inside}
 use Rattle.layout.specs.Records.{Record, words, Kind, policy, line, exclusion, lineKind, joinKind, exclusionKind, policyKind, kindOf, kinds}
 use Rattle.layout.specs.Judgement.{ifAny, ifLine, nextNode, SoFar, noRecord, insidePolicy, keepsLayout, soFarAfter, judged, lengthSound, verdict}
 use Rattle.layout.specs.Nodes.{ListedNode, ListedTree, lineRecords, nodeRecords, exclusionRecords, listing}
-use Rattle.layout.specs.WellFormed.{LinesFit, TreeFits, policyCount, ArePairs, PairsFit, WellFormed}
+use Rattle.layout.specs.WellFormed.{LinesFit, TreeFits, ArePairs, PairsFit, WellFormed}
 use Rattle.layout.proofs.KindLaws.{kind-line, kind-policy, kind-join, kind-exclusion}
 use Rattle.layout.proofs.WordLaws.{records-words, length-words}
 use Rattle.layout.proofs.ListedLaws.{no-line, any-nodes, next-nodes, line-lines, next-lines}
@@ -134,21 +135,21 @@ listing-sound pairs (x ∷ ns) g h =
 -- ---- trees
 
 -- the nodes of a tree that fits are well-formed wherever there is room for its policies, and leave one value more
-tree-well-formed : (t : ListedTree) (v p : ℕ) (ns : List ListedNode) → TreeFits t → p + policyCount t ≤ 16
-    → WellFormed (v + 1) (p + policyCount t) ns → WellFormed v p (postfix t ++ ns)
-unfolding postfix policyCount
+tree-well-formed : (t : ListedTree) (v p : ℕ) (ns : List ListedNode) → TreeFits t → p + leafCount t ≤ 16
+    → WellFormed (v + 1) (p + leafCount t) ns → WellFormed v p (postfix t ++ ns)
+unfolding postfix leafCount
 tree-well-formed (leaf q) v p ns g room h = (g, room, h)
 tree-well-formed (join j a b) v p ns g room h =
-    let last : WellFormed (v + 1 + 1) (p + policyCount a + policyCount b) (joining j ∷ ns) =
+    let last : WellFormed (v + 1 + 1) (p + leafCount a + leafCount b) (joining j ∷ ns) =
     (omega arith, subst₂ (λ (x y : ℕ). WellFormed x y ns) (omega arith) (omega arith) h) in
     rw (append-assoc (postfix a) (postfix b ++ (joining j ∷ [])) ns, append-assoc (postfix b) (joining j ∷ []) ns)
     (tree-well-formed a v p (postfix b ++ (joining j ∷ ns)) (g .0) (omega arith)
-    (tree-well-formed b (v + 1) (p + policyCount a) (joining j ∷ ns) (g .1) (omega arith) last))
+    (tree-well-formed b (v + 1) (p + leafCount a) (joining j ∷ ns) (g .1) (omega arith) last))
 
 -- the nodes of a tree that fits, of at most 16 policies, are well-formed, and their listing is sound
-pub tree-nodes : (t : ListedTree) → TreeFits t → policyCount t ≤ 16 → WellFormed 0 0 (postfix t)
+pub tree-nodes : (t : ListedTree) → TreeFits t → leafCount t ≤ 16 → WellFormed 0 0 (postfix t)
 tree-nodes t g room =
     subst (λ (ns : List ListedNode). WellFormed 0 0 ns) (append-nil (postfix t)) (tree-well-formed t 0 0 [] g (omega arith) (omega arith))
 
-pub tree-sound : (pairs : List ℕ) (t : ListedTree) → PairsFit pairs → TreeFits t → policyCount t ≤ 16 → verdict (words (listing pairs (postfix t))) ≡ result tt
+pub tree-sound : (pairs : List ℕ) (t : ListedTree) → PairsFit pairs → TreeFits t → leafCount t ≤ 16 → verdict (words (listing pairs (postfix t))) ≡ result tt
 tree-sound pairs t fit g room = listing-sound pairs (postfix t) fit (tree-nodes t g room)

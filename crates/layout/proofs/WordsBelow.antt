@@ -5,10 +5,10 @@ use mathlib.Core.List.{List, [], _∷_, _++_}
 use mathlib.Core.Path.{_≡_, refl, ap}
 use native.Mathlib.Omega.{arith}
 use lib.ListN.{length, length-append}
-use Rattle.arith.specs.Lists.{Each, AllBelow}
+use Rattle.arith.specs.Members.{Each}
 use Rattle.arith.specs.Trees.{value, joining}
 use Rattle.signals.proofs.SetOfLaws.{pair-small}
-use Rattle.layout.specs.Records.{Record, words, Join, and, or, bit, lineKind, joinKind, exclusionKind, policyKind}
+use Rattle.layout.specs.Records.{Record, words, Join, and, or, oneIf, lineKind, joinKind, exclusionKind, policyKind}
 use Rattle.layout.specs.Judgement.{ifAny}
 use Rattle.layout.specs.Nodes.{ListedNode, lineRecords, nodeRecords, exclusionRecords, listing}
 use Rattle.layout.specs.WellFormed.{LinesFit, ArePairs, PairsFit, WellFormed}
@@ -36,7 +36,7 @@ module _ (m : ℕ) (large : 65536 ≤ m) where
     lines : r .lines < m
     next : r .next < m
 
-  words-below : (rs : List Record) → Each Below rs → AllBelow m (words rs)
+  words-below : (rs : List Record) → Each Below rs → Each (_< m) (words rs)
   unfolding words
   words-below [] h = tt
   words-below (r ∷ rs) h = (h .0 .kind, (h .0 .mask, (h .0 .lines, (h .0 .next, words-below rs (h .1)))))
@@ -50,7 +50,7 @@ module _ (m : ℕ) (large : 65536 ≤ m) where
   )
 
   kind-below : (quiet turned : Bool) → policyKind quiet turned < m
-  unfolding policyKind bit
+  unfolding policyKind oneIf
   kind-below true true = omega arith
   kind-below true false = omega arith
   kind-below false true = omega arith
@@ -83,7 +83,7 @@ module _ (m : ℕ) (large : 65536 ≤ m) where
     exclusions-below (n + 1) pairs rest (g .1) (omega arith) k,
   )
 
-  pub listing-below : (pairs : List ℕ) (ns : List ListedNode) → PairsFit pairs → WellFormed 0 0 ns → 1 + length (listing pairs ns) < m → AllBelow m (words (listing pairs ns))
+  pub listing-below : (pairs : List ℕ) (ns : List ListedNode) → PairsFit pairs → WellFormed 0 0 ns → 1 + length (listing pairs ns) < m → Each (_< m) (words (listing pairs ns))
   unfolding listing
   listing-below pairs ns g h l =
       let k : length (listing pairs ns) ≡ length pairs + length (nodeRecords (1 + length pairs) ns) = omega (arith, length-append (exclusionRecords 1 pairs) (nodeRecords (1 + length pairs) ns), exclusions-count 1 pairs) in

@@ -37,9 +37,9 @@ pub data Kind : Type 0 where
   unknown : Kind
 
 -- 1 for yes, 0 for no
-unfoldable pub bit : Bool → ℕ
-bit true = 1
-bit false = 0
+unfoldable pub oneIf : Bool → ℕ
+oneIf true = 1
+oneIf false = 0
 
 -- 4 line
 unfoldable pub lineKind : ℕ
@@ -56,7 +56,7 @@ exclusionKind = 5
 
 -- 16 + quiet + 2 × turned policy
 unfoldable pub policyKind : (quiet turned : Bool) → ℕ
-policyKind quiet turned = 16 + bit quiet + 2 * bit turned
+policyKind quiet turned = 16 + oneIf quiet + 2 * oneIf turned
 
 -- what a record is by its first word
 unfoldable pub kindOf : ℕ → Kind

@@ -4,7 +4,7 @@ use mathlib.Core.Bool.{true}
 use mathlib.Core.List.{List, [], _∷_}
 use mathlib.Core.Path.{_≡_}
 use lib.ListN.{length}
-use Rattle.arith.specs.Lists.{Each}
+use Rattle.arith.specs.Members.{Each}
 use Rattle.arith.specs.Trees.{leaf, join, value, joining}
 use Rattle.signals.specs.Sets.{inside, isPair}
 use Rattle.layout.specs.Nodes.{ListedPolicy, ListedNode, ListedTree}
@@ -23,11 +23,6 @@ pub record PolicyFits (p : ListedPolicy) : Type 0 where
 abbrev pub TreeFits : ListedTree → Type 0
 TreeFits (leaf p) = PolicyFits p
 TreeFits (join j a b) = TreeFits a × TreeFits b
-
--- how many policies the tree has
-unfoldable pub policyCount : ListedTree → ℕ
-policyCount (leaf p) = 1
-policyCount (join j a b) = policyCount a + policyCount b
 
 -- each of these masks is a set of exactly two signals
 abbrev pub ArePairs : List ℕ → Type 0

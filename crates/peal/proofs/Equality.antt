@@ -7,7 +7,7 @@ use lib.IntN.{ℤ, +ℤ-idr}
 use Rattle.arith.proofs.Order.{ltZ-not, leZ-refl, scale-scale}
 use Rattle.signals.specs.Sets.{present}
 use Rattle.peal.specs.Policies.{Policy}
-use Rattle.peal.specs.Score.{scaled, presentRules, total, product, scaledProduct, ofAll, applied, scoreOf, policyScore, meets}
+use Rattle.peal.specs.Score.{scaled, presentRules, total, scoreProduct, scaledProduct, ofAll, applied, scoreOf, policyScore, meets}
 use Rattle.peal.specs.declared.Operator.{Operator}
 use Rattle.peal.specs.declared.Operator.the-variants.{Min, Max, Sum, Mul}
 use Rattle.peal.specs.declared.Sense.{Sense}
@@ -30,7 +30,7 @@ single op d signal v = record { operator = op; default = d; rules = record { sig
 -- where its signal is present, it scores what the rule does, whatever the operator and the default
 module _ (d : ℤ) (signal : ℕ) (v : ℤ) (set : ℕ) (here : present set signal ≡ true) where
   single-score : (op : Operator) → policyScore set (single op d signal v) ≡ scaled v
-  unfolding policyScore presentRules scoreOf applied ofAll total product scaledProduct scaled
+  unfolding policyScore presentRules scoreOf applied ofAll total scoreProduct scaledProduct scaled
   single-score Min = rw here refl
   single-score Max = rw here refl
   single-score Sum = rw (here, +ℤ-idr v) refl

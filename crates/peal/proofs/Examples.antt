@@ -6,7 +6,7 @@ use lib.IntN.{ℤ, pos, negsuc}
 use Rattle.peal.specs.Policies.{Rule, maskOf}
 use Rattle.peal.specs.Ranking.{ranked}
 use Rattle.peal.specs.Ranks.{rank}
-use Rattle.peal.specs.Lines.{sumAbove, productAtMost, lines}
+use Rattle.peal.specs.Lines.{has, lines}
 use Rattle.peal.specs.Search.{foundFrom, foundSets}
 use Rattle.peal.specs.Computing.{pealComputes}
 use Rattle.peal.specs.declared.Operator.{Operator}
@@ -118,11 +118,11 @@ no-larger-mul = refl
 abbrev bookA : List Rule
 bookA = 0 at pos 40 ∷ 1 at pos 30 ∷ 2 at pos 30 ∷ []
 
-search-sum : map maskOf (foundSets (sumAbove (pos 50)) (ranked Sum bookA)) ≡ 5 ∷ 3 ∷ 6 ∷ []
+search-sum : map maskOf (foundSets (has Sum (pos 50)) (ranked Sum bookA)) ≡ 5 ∷ 3 ∷ 6 ∷ []
 unfolding pealComputes foundSets foundFrom
 search-sum = refl
 
-search-mul : map maskOf (foundSets (productAtMost (pos 25)) (ranked Mul (0 at pos 50 ∷ 1 at pos 50 ∷ []))) ≡ 3 ∷ []
+search-mul : map maskOf (foundSets (has Mul (pos 25)) (ranked Mul (0 at pos 50 ∷ 1 at pos 50 ∷ []))) ≡ 3 ∷ []
 unfolding pealComputes foundSets foundFrom
 search-mul = refl
 

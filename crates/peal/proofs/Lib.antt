@@ -6,10 +6,9 @@ pub mod ScoreExamples
 pub mod MinimalSets
 pub mod SearchLaws
 pub mod HigherLaws
-pub mod OrderLaws
 pub mod RankLaws
 pub mod HavingLaws
-pub mod KeptLaws
+pub mod PersistLaws
 pub mod SingleLaws
 pub mod LineLaws
 pub mod TwoLaws

@@ -6,7 +6,9 @@ use native.Mathlib.Omega.{arith}
 use lib.IntN.{ℤ}
 use lib.ListN.{length}
 use lib.Pow.{pow-mono}
-use Rattle.arith.specs.Lists.{below, nonEmpty, subsets, Distinct}
+use Rattle.arith.specs.Lists.{below, nonEmpty, subsets}
+use Rattle.arith.specs.Members.{Distinct, InOrder}
+use Rattle.arith.proofs.InOrder.{order-inside, order-then, order-map, below-order}
 use Rattle.arith.proofs.Keep.{keep-few}
 use Rattle.arith.proofs.Reordering.{length-reordered}
 use Rattle.arith.proofs.Sublists.{keep-inside}
@@ -15,24 +17,21 @@ use Rattle.signals.specs.Sets.{setOf}
 use Rattle.peal.specs.Policies.{Rule}
 use Rattle.peal.specs.Ranking.{ranked}
 use Rattle.peal.specs.Ranks.{rank, rankSum}
-use Rattle.peal.specs.Lines.{setsInside, minimal, minimalSets, lines}
-use Rattle.peal.specs.SetsOfRules.{InOrder}
-use Rattle.peal.specs.Having.{has}
+use Rattle.peal.specs.Lines.{setsInside, minimal, minimalSets, lines, has}
 use Rattle.peal.specs.SearchFindsLines.{SearchFindsLines}
 use Rattle.peal.specs.LinesAreMinimal.{LinesAreMinimal}
 use Rattle.peal.specs.LinesAreFew.{LinesAreFew}
 use Rattle.peal.specs.declared.Operator.{Operator}
 use Rattle.peal.proofs.SetOrder.{sums-fall}
-use Rattle.peal.proofs.MinimalSets.{minimal-sets}
+use Rattle.peal.proofs.MinimalSets.{among-minimal}
 use Rattle.peal.proofs.SearchLaws.{search-finds-minimal}
-use Rattle.peal.proofs.OrderLaws.{order-inside, order-then, order-map, below-order}
 use Rattle.peal.proofs.RankLaws.{ranked-reordered, ranked-falls}
-use Rattle.peal.proofs.KeptLaws.{has-kept}
+use Rattle.peal.proofs.PersistLaws.{has-persists}
 use Rattle.peal.proofs.SingleLaws.{lines-minimal}
 
 pub search-finds-lines : SearchFindsLines
 search-finds-lines op t rules fit =
-    search-finds-minimal (has op t) (ranked op rules) (has-kept op t rules fit) ∙ sym (lines-minimal op t rules)
+    search-finds-minimal (has op t) (ranked op rules) (has-persists op t rules fit) ∙ sym (lines-minimal op t rules)
 
 pub lines-are-few : LinesAreFew
 unfolding minimalSets setsInside
@@ -78,7 +77,7 @@ module _ (op : Operator) (rules : List Rule) where
 pub lines-are-minimal : LinesAreMinimal
 lines-are-minimal op t rules distinct =
     record {
-      exactly = λ X. rw (lines-minimal op t rules) (minimal-sets (has op t) (ranked op rules) X);
+      exactly = λ X. rw (lines-minimal op t rules) (among-minimal (has op t) (ranked op rules) X);
       once =
           order-then (LessSum op rules) (λ (X Y : List Rule). X ≡ Y → ⊥) (λ X Y less e. omega (arith, less, ap (rankSum op rules) e))
           (lines op t rules) (lines-fall op rules distinct t);

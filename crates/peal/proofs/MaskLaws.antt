@@ -5,19 +5,19 @@ use mathlib.Core.List.{List, [], _∷_, _++_, map, map-append, Permᴰ·symm, Pe
 use mathlib.Core.Path.{_≡_, sym, ap, subst, _∙_}
 use native.Mathlib.Omega.{arith}
 use lib.IntN.{ℤ}
-use Rattle.arith.specs.Lists.{any, Each}
-use Rattle.arith.proofs.AnyEvery.{any-same, any-map, every-map}
-use Rattle.arith.proofs.DistinctLists.{distinct-reordered, distinct-inside, inside-map}
+use Rattle.arith.specs.Lists.{exists}
+use Rattle.arith.specs.Members.{Each, Among}
+use Rattle.arith.proofs.EveryExists.{exists-same, exists-map, every-map}
+use Rattle.arith.proofs.Distinct.{distinct-reordered, distinct-inside}
 use Rattle.arith.proofs.Members.{every-each, each-every}
 use Rattle.arith.proofs.Reordering.{each-reordered}
-use Rattle.arith.proofs.Sublists.{each-inside}
+use Rattle.arith.proofs.Sublists.{each-inside, inside-map}
 use Rattle.signals.specs.Sets.{present, inside, setOf}
 use Rattle.signals.proofs.SetOfLaws.{set-below, inside-set, overlap-set, inside-self}
 use Rattle.peal.specs.Policies.{Rule, maskOf}
 use Rattle.peal.specs.Ranking.{ranked}
-use Rattle.peal.specs.Lines.{lines}
-use Rattle.peal.specs.SetsOfRules.{SetInside, Among}
-use Rattle.peal.specs.Having.{has}
+use Rattle.peal.specs.Lines.{lines, has}
+use Rattle.peal.specs.SetsOfRules.{SetInside}
 use Rattle.peal.specs.Presence.{allPresent, somePresent}
 use Rattle.peal.specs.MasksDecide.{SignalsFit, MasksDecide}
 use Rattle.peal.specs.declared.Operator.{Operator}
@@ -32,7 +32,7 @@ pub masks-decide : MasksDecide
 unfolding maskOf allPresent somePresent
 masks-decide X set h = (
   inside-set (map signalOf X) (h .below) (h .different) set ∙ every-map signalOf (present set) X,
-  overlap-set (map signalOf X) (h .below) (h .different) set ∙ any-map signalOf (present set) X,
+  overlap-set (map signalOf X) (h .below) (h .different) set ∙ exists-map signalOf (present set) X,
 )
 
 -- ---- rules in another order, and fewer rules
@@ -57,10 +57,10 @@ module _ (o : Operator) (t : ℤ) (rules : List Rule) where
     line-fits L m = fewer-fit (line-inside L m) (ranked-fit o rules h)
 
     -- some line's mask lies inside the set exactly if every rule of some line is present
-    pub masks-inside : (set : ℕ) → any (λ l. inside l set) (map maskOf (lines o t rules)) ≡ any (allPresent set) (lines o t rules)
+    pub masks-inside : (set : ℕ) → exists (λ l. inside l set) (map maskOf (lines o t rules)) ≡ exists (allPresent set) (lines o t rules)
     masks-inside set =
-        any-map maskOf (λ l. inside l set) (lines o t rules)
-        ∙ any-same (λ L. inside (maskOf L) set) (allPresent set) (lines o t rules) (λ L m. masks-decide L set (line-fits L m) .0)
+        exists-map maskOf (λ l. inside l set) (lines o t rules)
+        ∙ exists-same (λ L. inside (maskOf L) set) (allPresent set) (lines o t rules) (λ L m. masks-decide L set (line-fits L m) .0)
 
 -- ---- each line's mask is a signal set inside the policy's mask
 

@@ -1,6 +1,6 @@
 -- Minimal sets as they are listed, and as the documents say it of every smaller non-empty set inside.
 use Prim.Native.Nat.{_≤_, _<_}
-use mathlib.Core.Bool.{Bool, true, not}
+use mathlib.Core.Bool.{Bool, true, false, not}
 use mathlib.Core.List.{List, Sublistᴰ·refl, Sublistᴰ·trans}
 use mathlib.Core.Logic.{_↔_, ⊎-elim}
 use mathlib.Core.Path.{_≡_, sym, ap, _∙_}
@@ -16,7 +16,14 @@ use Rattle.arith.proofs.Members.{each-in, each-out, every-each, each-every, kee
 use Rattle.arith.proofs.Subsets.{subsets-in, subsets-out}
 use Rattle.peal.specs.Policies.{Rule}
 use Rattle.peal.specs.Lines.{setsInside, smallerSets, minimal, minimalSets}
-use Rattle.peal.specs.SetsOfRules.{SetInside, IsMinimal, Among}
+use Rattle.peal.specs.SetsOfRules.{SetInside}
+use Rattle.arith.specs.Members.{Among}
+
+-- X is minimal, said of every smaller non-empty set inside it
+pub record IsMinimal (property : List Rule → Bool) (X : List Rule) : Type 0 where
+  pub some : nonEmpty X ≡ true
+  pub holds : property X ≡ true
+  pub noSmaller : (Y : List Rule) → SetInside Y X → nonEmpty Y ≡ true → length Y < length X → property Y ≡ false
 
 pub inside-in : {Y X : List Rule} → SetInside Y X → nonEmpty Y ≡ true → Among Y (setsInside X)
 unfolding setsInside
@@ -60,11 +67,18 @@ module _ (property : List Rule → Bool) where
       rw (h .holds) (every-each lacks (smallerSets X) (each-in Lacks (smallerSets X) (λ Y m.
       let (s, some, l) = smaller-out X Y m in ap not (h .noSmaller Y s some l))))
 
-  pub minimal-sets : (rules X : List Rule) → Among X (minimalSets property rules) ↔ (SetInside X rules × IsMinimal property X)
+  pub among-minimal : (rules X : List Rule)
+      → Among X (minimalSets property rules) ↔ (SetInside X rules × (nonEmpty X ≡ true) × (minimal property X ≡ true))
   unfolding minimalSets
+  among-minimal rules X = (
+    λ m. let (k, least) = keep-out (minimal property) (setsInside rules) m in let (s, some) = inside-out rules k in (s, some, least),
+    λ (s, some, least). keep-in (minimal property) (inside-in s some) least,
+  )
+
+  pub minimal-sets : (rules X : List Rule) → Among X (minimalSets property rules) ↔ (SetInside X rules × IsMinimal property X)
   minimal-sets rules X = (
-    λ m. let (k, least) = keep-out (minimal property) (setsInside rules) m in let (s, some) = inside-out rules k in (s, minimal-out X some least),
-    λ (s, least). keep-in (minimal property) (inside-in s (least .some)) (minimal-in X least),
+    λ m. let (s, some, least) = among-minimal rules X .0 m in (s, minimal-out X some least),
+    λ (s, least). among-minimal rules X .1 (s, least .some, minimal-in X least),
   )
 
   -- no minimal set lies inside another

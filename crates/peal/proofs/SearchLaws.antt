@@ -1,4 +1,4 @@
--- The search finds the minimal sets, for every property that is kept.
+-- The search finds the minimal sets, for every property that persists.
 use Prim.Native.Nat.{_<_}
 use mathlib.Core.Bool.{Bool, true, false, cond}
 use mathlib.Core.List.{List, [], _∷_, _++_, map, append-nil, append-assoc, map-append, map-map, map-id, Memᴰ·of-map, Sublistᴰ·slnil, Sublistᴰ·eq-nil, Sublistᴰ·cons, Sublistᴰ·cons-cons, Sublistᴰ·refl, Sublistᴰ·trans, Sublistᴰ·append}
@@ -15,10 +15,10 @@ use Rattle.arith.proofs.Sublists.{front-inside, behind-inside, left-out, inside
 use Rattle.arith.proofs.Subsets.{subsets-more, subsets-last}
 use Rattle.peal.specs.Policies.{Rule}
 use Rattle.peal.specs.Lines.{setsInside, minimal, minimalSets}
-use Rattle.peal.specs.SetsOfRules.{SetInside, IsMinimal}
+use Rattle.peal.specs.SetsOfRules.{SetInside}
+use Rattle.peal.proofs.MinimalSets.{IsMinimal, inside-out, minimal-out, minimal-in}
 use Rattle.peal.specs.Search.{foundFrom, foundSets}
-use Rattle.peal.specs.SearchFindsMinimal.{Kept, SearchFindsMinimal}
-use Rattle.peal.proofs.MinimalSets.{inside-out, minimal-out, minimal-in}
+use Rattle.peal.specs.SearchFindsMinimal.{Persists, SearchFindsMinimal}
 
 -- of one rule more: those with it and others, with it alone, and without it
 inside-more : (r : Rule) (L : List Rule) → setsInside (r ∷ L) ≡ map (λ Y. r ∷ Y) (setsInside L ++ ([] ∷ [])) ++ setsInside L
@@ -48,12 +48,12 @@ module _ (property : List Rule → Bool) where
       let (s, some) = inside-out L k in
       rw (← e) (not-yes (minimal property (X ++ Y)) (λ least. h Y s (minimal-out property (X ++ Y) (some-around (behind-inside X Y) some) least) some)))
 
-  module _ (rules : List Rule) (kept : Kept property rules) where
+  module _ (rules : List Rule) (persists : Persists property rules) where
     -- rules may be added behind P
     pub grown : (P : List Rule) {Y X : List Rule} → SetInside Y X → SetInside (P ++ X) rules → property (P ++ Y) ≡ true → property (P ++ X) ≡ true
     grown P Sublistᴰ·slnil i h = h
     grown P (Sublistᴰ·cons {a = a} {l₂ = X} s) i h =
-        kept .added P X a i (grown P s (Sublistᴰ·trans (Sublistᴰ·append (Sublistᴰ·refl P) (Sublistᴰ·cons (Sublistᴰ·refl X))) i) h)
+        persists .added P X a i (grown P s (Sublistᴰ·trans (Sublistᴰ·append (Sublistᴰ·refl P) (Sublistᴰ·cons (Sublistᴰ·refl X))) i) h)
     grown P (Sublistᴰ·cons-cons {b = b} {l₁ = Y} {l₂ = X} e s) i h =
         rw (append-assoc P (b ∷ []) X) at (grown (P ++ (b ∷ [])) s (rw (append-assoc P (b ∷ []) X) i) (rw (append-assoc P (b ∷ []) Y, ← e) h))
 
@@ -68,7 +68,7 @@ module _ (property : List Rule → Bool) where
         go A B a t j =
             let without : SetInside ((A ++ B) ++ (r ∷ [])) rules =
             rw (append-assoc A B (r ∷ [])) (Sublistᴰ·trans (Sublistᴰ·append (Sublistᴰ·refl A) (Sublistᴰ·cons (Sublistᴰ·refl (B ++ (r ∷ []))))) j) in
-            kept .exchanged A B a r j (rw (append-assoc A B (r ∷ [])) at (grown [] (Sublistᴰ·append t (Sublistᴰ·refl (r ∷ []))) without h))
+            persists .exchanged A B a r j (rw (append-assoc A B (r ∷ [])) at (grown [] (Sublistᴰ·append t (Sublistᴰ·refl (r ∷ []))) without h))
 
     -- so where no non-empty set inside X has the property, X with r is minimal exactly if it has it
     next-minimal : (X : List Rule) (r : Rule) → SetInside (X ++ (r ∷ [])) rules → NoneInside X
@@ -126,6 +126,6 @@ module _ (property : List Rule → Bool) where
 
 pub search-finds-minimal : SearchFindsMinimal
 unfolding foundSets minimalSets minimalFrom
-search-finds-minimal property rules kept =
-    search-from property rules kept [] rules (Sublistᴰ·refl rules) (λ Y s some. clash some (ap nonEmpty (Sublistᴰ·eq-nil s)))
+search-finds-minimal property rules persists =
+    search-from property rules persists [] rules (Sublistᴰ·refl rules) (λ Y s some. clash some (ap nonEmpty (Sublistᴰ·eq-nil s)))
     ∙ rw map-id

@@ -7,8 +7,7 @@ use mathlib.Core.Path.{_≡_, refl, sym, ap, ap₂, _∙_}
 use native.Mathlib.Omega.{arith}
 use lib.Dec.{lit<}
 use lib.IntN.{ℤ, pos}
-use lib.Signed.{leZ, ltZ}
-use Rattle.arith.specs.Lists.{any, keep, nonEmpty, subsets}
+use Rattle.arith.specs.Lists.{exists, keep, nonEmpty, subsets}
 use Rattle.arith.proofs.Tests.{clash, not-yes, or-cases}
 use Rattle.arith.proofs.Keep.{keep-all, keep-append}
 use Rattle.arith.proofs.Members.{each-in, keep-in, keep-out}
@@ -16,11 +15,11 @@ use Rattle.arith.proofs.Order.{leZ-scale}
 use Rattle.arith.proofs.Subsets.{keep-empty, subsets-more}
 use Rattle.arith.proofs.Reordering.{among-reordered}
 use Rattle.peal.specs.Policies.{Rule}
-use Rattle.peal.specs.Score.{scaled, total, product, scaledProduct}
+use Rattle.peal.specs.Score.{scaled, total, scoreProduct, scaledProduct}
 use Rattle.peal.specs.Ranking.{ranked}
-use Rattle.peal.specs.Lines.{setsInside, smallerSets, minimal, minimalSets, singles, sumAbove, productAtMost, lines}
-use Rattle.peal.specs.SetsOfRules.{SetInside, Among}
-use Rattle.peal.specs.Having.{has}
+use Rattle.peal.specs.Lines.{setsInside, smallerSets, minimal, minimalSets, singles, scoreAbove, scoreAtMost, has, lines}
+use Rattle.peal.specs.SetsOfRules.{SetInside}
+use Rattle.arith.specs.Members.{Among}
 use Rattle.peal.specs.SearchFindsLines.{RulesFit}
 use Rattle.peal.specs.LinesAreSingle.{Single, LinesAreSingle}
 use Rattle.peal.specs.EachRuleIsALine.{EachRule, EachRuleIsALine}
@@ -28,10 +27,10 @@ use Rattle.peal.specs.declared.Operator.{Operator}
 use Rattle.peal.specs.declared.Operator.the-variants.{Min, Max, Sum, Mul}
 use Rattle.peal.proofs.MinimalSets.{minimal-out, minimal-same}
 use Rattle.peal.proofs.RankLaws.{ranked-reordered}
-use Rattle.peal.proofs.KeptLaws.{fits-reordered, fits-inside, has-all}
+use Rattle.peal.proofs.PersistLaws.{fits-reordered, fits-inside, has-all}
 
 module _ (test : Rule → Bool) where
-  one-minimal : (r : Rule) → minimal (any test) (r ∷ []) ≡ test r
+  one-minimal : (r : Rule) → minimal (exists test) (r ∷ []) ≡ test r
   unfolding minimal smallerSets setsInside
   one-minimal r = go (test r)
     where
@@ -39,23 +38,23 @@ module _ (test : Rule → Bool) where
       go true = refl
       go false = refl
 
-  two-not : (q r : Rule) (X : List Rule) → minimal (any test) (q ∷ r ∷ X) ≡ false
+  two-not : (q r : Rule) (X : List Rule) → minimal (exists test) (q ∷ r ∷ X) ≡ false
   two-not q r X =
-      not-yes (minimal (any test) (q ∷ r ∷ X)) (λ m.
-      let least = minimal-out (any test) (q ∷ r ∷ X) refl m in
+      not-yes (minimal (exists test) (q ∷ r ∷ X)) (λ m.
+      let least = minimal-out (exists test) (q ∷ r ∷ X) refl m in
       ⊎-elim
       (λ h. clash (or-false (test q) ∙ h) (least .noSmaller (q ∷ []) (Sublistᴰ·cons-cons refl (Sublistᴰ·nil-sublist (r ∷ X))) refl (omega arith)))
       (λ h. clash h (least .noSmaller (r ∷ X) (Sublistᴰ·cons (Sublistᴰ·refl (r ∷ X))) refl (omega arith)))
-      (or-cases (test q) (any test (r ∷ X)) (least .holds)))
+      (or-cases (test q) (exists test (r ∷ X)) (least .holds)))
 
-  minimal-singles : (rules : List Rule) → minimalSets (any test) rules ≡ singles test rules
+  minimal-singles : (rules : List Rule) → minimalSets (exists test) rules ≡ singles test rules
   unfolding minimalSets setsInside singles minimal smallerSets
   minimal-singles [] = refl
   minimal-singles (r ∷ rules) =
-      ap (keep (minimal (any test))) (subsets-more r rules)
-      ∙ keep-append (minimal (any test)) (map (λ Y. r ∷ Y) (subsets rules)) (keep nonEmpty (subsets rules))
+      ap (keep (minimal (exists test))) (subsets-more r rules)
+      ∙ keep-append (minimal (exists test)) (map (λ Y. r ∷ Y) (subsets rules)) (keep nonEmpty (subsets rules))
       ∙ ap₂ (λ (l m : List (List Rule)). l ++ m)
-      (keep-empty (minimal (any test)) (λ Y. r ∷ Y) rules (two-not r) ∙ ap (λ (t : Bool). cond t ((r ∷ []) ∷ []) []) (one-minimal r))
+      (keep-empty (minimal (exists test)) (λ Y. r ∷ Y) rules (two-not r) ∙ ap (λ (t : Bool). cond t ((r ∷ []) ∷ []) []) (one-minimal r))
       (minimal-singles rules)
       ∙ go (test r)
     where
@@ -82,13 +81,13 @@ pub lines-minimal : (op : Operator) (t : ℤ) (rules : List Rule) → lines op t
 unfolding lines has
 lines-minimal Sum t rules = refl
 lines-minimal Mul t rules = refl
-lines-minimal Max t rules = sym (minimal-singles (λ r. ltZ t (r .score)) (ranked Max rules))
-lines-minimal Min t rules = sym (minimal-singles (λ r. leZ (r .score) t) (ranked Min rules))
+lines-minimal Max t rules = sym (minimal-singles (scoreAbove t) (ranked Max rules))
+lines-minimal Min t rules = sym (minimal-singles (scoreAtMost t) (ranked Min rules))
 
 pub lines-are-single : LinesAreSingle
 unfolding lines
 lines-are-single t rules X =
-    (among-singles (λ r. ltZ t (r .score)) Max rules X, among-singles (λ r. leZ (r .score) t) Min rules X)
+    (among-singles (scoreAbove t) Max rules X, among-singles (scoreAtMost t) Min rules X)
 
 -- ---- where the empty set has the property
 
@@ -96,20 +95,20 @@ each-rule : (op : Operator) (t : ℤ) (rules : List Rule) → RulesFit op rules 
 unfolding singles
 each-rule op t rules fit none =
     lines-minimal op t rules
-    ∙ minimal-same (has op t) (any (λ r. true)) (ranked op rules) same
+    ∙ minimal-same (has op t) (exists (λ r. true)) (ranked op rules) same
     ∙ minimal-singles (λ r. true) (ranked op rules)
     ∙ ap (map (λ r. r ∷ [])) (keep-all (λ r. true) (ranked op rules) (each-in (λ (r : Rule). true ≡ true) (ranked op rules) (λ r m. refl)))
   where
-    some-is-any : (X : List Rule) → nonEmpty X ≡ true → any (λ (r : Rule). true) X ≡ true
-    some-is-any [] h = clash h refl
-    some-is-any (r ∷ X) h = refl
+    some-exists : (X : List Rule) → nonEmpty X ≡ true → exists (λ (r : Rule). true) X ≡ true
+    some-exists [] h = clash h refl
+    some-exists (r ∷ X) h = refl
 
-    same : (X : List Rule) → SetInside X (ranked op rules) → nonEmpty X ≡ true → has op t X ≡ any (λ (r : Rule). true) X
+    same : (X : List Rule) → SetInside X (ranked op rules) → nonEmpty X ≡ true → has op t X ≡ exists (λ (r : Rule). true) X
     same X s some =
-        has-all op t X (fits-inside s (fits-reordered (Permᴰ·symm (ranked-reordered op rules)) fit)) none ∙ sym (some-is-any X some)
+        has-all op t X (fits-inside s (fits-reordered (Permᴰ·symm (ranked-reordered op rules)) fit)) none ∙ sym (some-exists X some)
 
 pub each-rule-is-a-line : EachRuleIsALine
-unfolding has sumAbove total productAtMost scaledProduct product scaled
+unfolding has total scaledProduct scoreProduct scaled
 each-rule-is-a-line =
     record {
       ofSum = λ t rules fit h. each-rule Sum t rules fit h;

@@ -1,11 +1,11 @@
 pub mod Policies
+pub mod Standins
 pub mod Score
 pub mod Combining
 pub mod Ranking
 pub mod Lines
 pub mod Computing
 pub mod SetsOfRules
-pub mod Having
 pub mod Search
 pub mod Ranks
 pub mod SearchFindsMinimal

@@ -5,7 +5,7 @@ use lib.Dec.{ltb}
 use lib.IntN.{ℤ}
 use lib.ListN.{length}
 use lib.Signed.{leZ, ltZ}
-use Rattle.arith.specs.Lists.{every, keep, nonEmpty, subsets}
+use Rattle.arith.specs.Lists.{every, exists, keep, nonEmpty, subsets}
 use Rattle.peal.specs.Policies.{Rule}
 use Rattle.peal.specs.Score.{scaled, total, scaledProduct}
 use Rattle.peal.specs.Ranking.{ranked}
@@ -33,17 +33,23 @@ minimalSets property rules = keep (minimal property) (setsInside rules)
 unfoldable pub singles : (Rule → Bool) → List Rule → List (List Rule)
 singles test rules = map (λ r. r ∷ []) (keep test rules)
 
--- the sum exceeds T
-unfoldable pub sumAbove : ℤ → List Rule → Bool
-sumAbove t X = ltZ t (total X)
+-- the tests of max and of min: V exceeds T, V is at most T
+abbrev pub scoreAbove : ℤ → Rule → Bool
+scoreAbove t r = ltZ t (r .score)
 
--- the product in units is at most T divided by 100
-unfoldable pub productAtMost : ℤ → List Rule → Bool
-productAtMost t X = leZ (scaledProduct X) (scaled t)
+abbrev pub scoreAtMost : ℤ → Rule → Bool
+scoreAtMost t r = leZ (r .score) t
+
+-- sum: the sum exceeds T; mul: the product in units is at most T divided by 100; max, min: some rule passes the test
+unfoldable pub has : Operator → ℤ → List Rule → Bool
+has Sum t X = ltZ t (total X)
+has Mul t X = leZ (scaledProduct X) (scaled t)
+has Max t X = exists (scoreAbove t) X
+has Min t X = exists (scoreAtMost t) X
 
 -- the lines of a policy under threshold T, in falling order of the sum of 2 to the rank
 unfoldable pub lines : Operator → ℤ → List Rule → List (List Rule)
-lines Sum t rules = minimalSets (sumAbove t) (ranked Sum rules)
-lines Mul t rules = minimalSets (productAtMost t) (ranked Mul rules)
-lines Max t rules = singles (λ r. ltZ t (r .score)) (ranked Max rules)
-lines Min t rules = singles (λ r. leZ (r .score) t) (ranked Min rules)
+lines Sum t rules = minimalSets (has Sum t) (ranked Sum rules)
+lines Mul t rules = minimalSets (has Mul t) (ranked Mul rules)
+lines Max t rules = singles (scoreAbove t) (ranked Max rules)
+lines Min t rules = singles (scoreAtMost t) (ranked Min rules)

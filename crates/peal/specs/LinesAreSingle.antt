@@ -4,10 +4,9 @@ use mathlib.Core.List.{List, [], _∷_}
 use mathlib.Core.Logic.{_↔_}
 use mathlib.Core.Path.{_≡_}
 use lib.IntN.{ℤ}
-use lib.Signed.{leZ, ltZ}
 use Rattle.peal.specs.Policies.{Rule}
-use Rattle.peal.specs.Lines.{lines}
-use Rattle.peal.specs.SetsOfRules.{Among}
+use Rattle.peal.specs.Lines.{scoreAbove, scoreAtMost, lines}
+use Rattle.arith.specs.Members.{Among}
 use Rattle.peal.specs.declared.Operator.the-variants.{Min, Max}
 
 -- X is one rule of the policy, and it passes the test
@@ -20,5 +19,5 @@ pub record Single (test : Rule → Bool) (rules X : List Rule) : Type 0 where
 abbrev pub LinesAreSingle : Type 0
 LinesAreSingle =
     (t : ℤ) (rules X : List Rule)
-    → (Among X (lines Max t rules) ↔ Single (λ r. ltZ t (r .score)) rules X)
-    × (Among X (lines Min t rules) ↔ Single (λ r. leZ (r .score) t) rules X)
+    → (Among X (lines Max t rules) ↔ Single (scoreAbove t) rules X)
+    × (Among X (lines Min t rules) ↔ Single (scoreAtMost t) rules X)

@@ -3,7 +3,7 @@ use Prim.Native.Nat.{ℕ}
 use mathlib.Core.Bool.{Bool, true, _&&_}
 use mathlib.Core.List.{List}
 use mathlib.Core.Path.{_≡_}
-use Rattle.arith.specs.Lists.{any, nonEmpty}
+use Rattle.arith.specs.Lists.{exists, nonEmpty}
 use Rattle.peal.specs.Policies.{Rule}
 use Rattle.peal.specs.Score.{presentRules}
 use Rattle.peal.specs.Lines.{minimalSets}
@@ -18,4 +18,4 @@ AddingKeeps property X = (Y : List Rule) → SetInside Y X → property Y ≡ tr
 abbrev pub MinimalSetsDecide : Type 0
 MinimalSetsDecide =
     (property : List Rule → Bool) (rules : List Rule) (set : ℕ) → AddingKeeps property (presentRules set rules)
-    → any (allPresent set) (minimalSets property rules) ≡ (nonEmpty (presentRules set rules) && property (presentRules set rules))
+    → exists (allPresent set) (minimalSets property rules) ≡ (nonEmpty (presentRules set rules) && property (presentRules set rules))

@@ -3,7 +3,7 @@ use mathlib.Core.List.{List, List·Permᴰ}
 use mathlib.Core.Path.{_≡_}
 use lib.IntN.{ℤ}
 use Rattle.peal.specs.Policies.{Rule}
-use Rattle.peal.specs.Having.{has}
+use Rattle.peal.specs.Lines.{has}
 use Rattle.peal.specs.declared.Operator.{Operator}
 
 -- the same rules in another order have the property too: the book's order, or rank order

@@ -49,14 +49,6 @@ pub record Book : Type 0 where
   pub exclusions : List Exclusion
   pub conditions : List Condition
 
--- stands in for a rule that is not there
-unfoldable pub noRule : Rule
-noRule = record { signal = 0; score = pos 0 }
-
--- stands in for an exclusion that is not there
-unfoldable pub noExclusion : Exclusion
-noExclusion = record { first = 0; second = 0 }
-
 -- stands in for a policy that is not there; no condition of an accepted book mentions one
 unfoldable pub emptyPolicy : Policy
 emptyPolicy = record { operator = Min; default = pos 0; rules = [] }

@@ -2,7 +2,7 @@
 use Prim.Native.Nat.{ℕ}
 use mathlib.Core.Bool.{Bool}
 use mathlib.Core.List.{List}
-use Rattle.arith.specs.Lists.{every, any}
+use Rattle.arith.specs.Lists.{every, exists}
 use Rattle.signals.specs.Sets.{present}
 use Rattle.peal.specs.Policies.{Rule}
 
@@ -12,4 +12,4 @@ allPresent set X = every (λ r. present set (r .signal)) X
 
 -- some rule of X is present
 unfoldable pub somePresent : ℕ → List Rule → Bool
-somePresent set X = any (λ r. present set (r .signal)) X
+somePresent set X = exists (λ r. present set (r .signal)) X

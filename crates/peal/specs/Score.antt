@@ -14,8 +14,7 @@ use Rattle.peal.specs.declared.Operator.the-variants.{Min, Max, Sum, Mul
 use Rattle.peal.specs.declared.Sense.{Sense}
 use Rattle.peal.specs.declared.Sense.the-variants.{Above, AtMost}
 
--- Scores are exact, in parts of which a unit has 10 to the 16: a product of at most eight scores in hundredths is then whole.
--- Some hundredths, in parts.
+-- some hundredths in parts, of which a unit has 10 to the 16: so scores are exact, a product of at most eight too
 unfoldable pub scaled : ℤ → ℤ
 scaled v = v *ℤ pos (10 ^ 14)
 
@@ -29,13 +28,13 @@ total [] = pos 0
 total (r ∷ rs) = r .score +ℤ total rs
 
 -- the product of the scores of some rules; divided by 100 to their number it is in units
-unfoldable pub product : List Rule → ℤ
-product [] = pos 1
-product (r ∷ rs) = r .score *ℤ product rs
+unfoldable pub scoreProduct : List Rule → ℤ
+scoreProduct [] = pos 1
+scoreProduct (r ∷ rs) = r .score *ℤ scoreProduct rs
 
--- the product of at most eight rules, in parts
+-- the same in parts, for at most eight rules, as a mul policy of an accepted book has: 8 - n is 0 for every n above 8
 unfoldable pub scaledProduct : List Rule → ℤ
-scaledProduct rules = product rules *ℤ pos (100 ^ (8 - length rules))
+scaledProduct rules = scoreProduct rules *ℤ pos (100 ^ (8 - length rules))
 
 -- the smaller or the larger of two
 unfoldable pub ofTwo : MinMax → ℤ → ℤ → ℤ

@@ -6,11 +6,10 @@ use mathlib.Core.Path.{_≡_}
 use lib.IntN.{ℤ, pos}
 use lib.ListN.{length}
 use lib.Signed.{leZ}
-use Rattle.arith.specs.Lists.{Each}
+use Rattle.arith.specs.Members.{Each}
 use Rattle.peal.specs.Policies.{Rule}
 use Rattle.peal.specs.Ranking.{ranked}
-use Rattle.peal.specs.Lines.{lines}
-use Rattle.peal.specs.Having.{has}
+use Rattle.peal.specs.Lines.{lines, has}
 use Rattle.peal.specs.Search.{foundSets}
 use Rattle.peal.specs.declared.Operator.{Operator}
 use Rattle.peal.specs.declared.Operator.the-variants.{Min, Max, Sum, Mul}

@@ -8,7 +8,7 @@ use Rattle.peal.specs.SetsOfRules.{SetInside}
 use Rattle.peal.specs.Search.{foundSets}
 
 -- what is asked of a property of the sets inside some rules in falling rank
-pub record Kept (property : List Rule → Bool) (rules : List Rule) : Type 0 where
+pub record Persists (property : List Rule → Bool) (rules : List Rule) : Type 0 where
   -- a set that has it keeps it when a rule r is added
   pub added : (X Y : List Rule) (r : Rule) → SetInside (X ++ (r ∷ Y)) rules
       → property (X ++ Y) ≡ true → property (X ++ (r ∷ Y)) ≡ true
@@ -18,4 +18,4 @@ pub record Kept (property : List Rule → Bool) (rules : List Rule) : Type 0 whe
 
 abbrev pub SearchFindsMinimal : Type 0
 SearchFindsMinimal =
-    (property : List Rule → Bool) (rules : List Rule) → Kept property rules → foundSets property rules ≡ minimalSets property rules
+    (property : List Rule → Bool) (rules : List Rule) → Persists property rules → foundSets property rules ≡ minimalSets property rules

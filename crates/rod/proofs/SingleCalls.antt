@@ -6,7 +6,7 @@ use mathlib.Core.Path.{_≡_, refl, sym, ap, _∙_}
 use lib.ListN.{length}
 use Rattle.answers.specs.Answers.{result, refused}
 use Rattle.answers.proofs.Results.{passed-up}
-use Rattle.layout.specs.Records.{bit}
+use Rattle.layout.specs.Records.{oneIf}
 use Rattle.layout.specs.Judgement.{verdict}
 use Rattle.rod.specs.Reading.{says, rodAnswer}
 use Rattle.rod.specs.Traversing.{answersTo, traversed}
@@ -14,7 +14,7 @@ use Rattle.rod.specs.SingleCalls.{singleAnswer, SingleCalls}
 use Rattle.rod.proofs.Traverses.{equal-examined, answers-given}
 
 module _ (ws : List ℕ) where
-  single : verdict ws ≡ result tt → (set : ℕ) → singleAnswer ws set ≡ result (bit (says ws set))
+  single : verdict ws ≡ result tt → (set : ℕ) → singleAnswer ws set ≡ result (oneIf (says ws set))
   unfolding singleAnswer rodAnswer
   single v set = rw v refl
 

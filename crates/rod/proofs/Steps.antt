@@ -8,7 +8,7 @@ use native.Mathlib.Omega.{arith}
 use lib.Dec.{eqb}
 use lib.ListN.{length, getD, drop}
 use Rattle.answers.specs.Answers.{result, refused}
-use Rattle.arith.specs.Trees.{taken, run}
+use Rattle.arith.specs.Trees.{joinedLast, run}
 use Rattle.arith.proofs.Order.{le-or-lt}
 use Rattle.layout.specs.Records.{Record, records, Join, Kind, policy, line, exclusion, unknown, kindOf, isLine, kinds}
 use Rattle.layout.specs.Judgement.{ifAny, noRecord, keepsLayout, soFarAfter, judged, verdict}
@@ -182,7 +182,7 @@ module _ (ws : List ℕ) (set at values : ℕ) (lt : at < length ws / 4) (u : Un
   -- a join takes two values and leaves one
   pub past-join : (j : Join) → Kind.join j ≡ kindOf (getD ws (at * 4) 0) → (r : ℕ)
       → LastJoined j values r → Underway ws set (nodeEnd ws at) r
-  unfolding soFarAfter nodeThen run taken node-after
+  unfolding soFarAfter nodeThen run joinedLast node-after
   past-join j e r er = go (u .stack) (u .held) (u .height) (same-here (Kind.join j) e)
     where
       two : 2 ≤ u .node .above .values

@@ -11,7 +11,7 @@ use mir.Val.{boolByte}
 use Rattle.arith.proofs.Filling.{filled, filled-more, filled-all}
 use Rattle.answers.specs.Answers.{result, refused, onResult}
 use Rattle.answers.proofs.Results.{result-is, required, gone-on}
-use Rattle.layout.specs.Records.{bit}
+use Rattle.layout.specs.Records.{oneIf}
 use Rattle.layout.specs.Judgement.{verdict}
 use Rattle.layout.specs.Meaning.{faultNumber, faultValue, faultMeaning}
 use Rattle.layout.specs.declared.Fault.{Fault}
@@ -23,17 +23,17 @@ use Rattle.rod.specs.declared.Traversed.the-variants.{Answered, Unequal,
 
 -- ---- the answers
 
-byte-is-bit : (b : Bool) → boolByte b ≡ bit b
-unfolding bit
-byte-is-bit true = refl
-byte-is-bit false = refl
+byte-is-one-if : (b : Bool) → boolByte b ≡ oneIf b
+unfolding oneIf
+byte-is-one-if true = refl
+byte-is-one-if false = refl
 
 module _ (ws sets : List ℕ) where
   pub as-many : length (answersTo ws sets) ≡ length sets
   unfolding answersTo
   as-many = length-map sets _
 
-  answer-to : (i : ℕ) → getD (answersTo ws sets) i (bit (says ws 0)) ≡ bit (says ws (getD sets i 0))
+  answer-to : (i : ℕ) → getD (answersTo ws sets) i (oneIf (says ws 0)) ≡ oneIf (says ws (getD sets i 0))
   unfolding answersTo
   answer-to i = List·getD-map _ sets i 0
 
@@ -43,8 +43,8 @@ module _ (ws sets : List ℕ) where
         → (left : List ℕ) → left ≡ filled i (answersTo ws sets) lent
         → (b : Bool) → b ≡ says ws (getD sets i 0) → set left i (boolByte b) ≡ filled (i + 1) (answersTo ws sets) lent
     answered-more i h equal left e b s =
-        let new : boolByte b ≡ getD (answersTo ws sets) i (bit (says ws 0)) = byte-is-bit b ∙ ap bit s ∙ sym (answer-to i) in
-        rw (e, new) (filled-more (answersTo ws sets) lent i (bit (says ws 0)) (omega (arith, as-many)) (omega arith))
+        let new : boolByte b ≡ getD (answersTo ws sets) i (oneIf (says ws 0)) = byte-is-one-if b ∙ ap oneIf s ∙ sym (answer-to i) in
+        rw (e, new) (filled-more (answersTo ws sets) lent i (oneIf (says ws 0)) (omega (arith, as-many)) (omega arith))
 
     -- all of them
     pub answered-all : (i : ℕ) → length sets ≤ i → length sets ≡ length lent → filled i (answersTo ws sets) lent ≡ answersTo ws sets

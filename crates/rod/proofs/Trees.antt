@@ -5,10 +5,11 @@ use mathlib.Core.Path.{_≡_, refl, sym, ap, _∙_}
 use Rattle.answers.specs.Answers.{result}
 use Rattle.arith.specs.Trees.{postfix, treeValue, run}
 use Rattle.arith.proofs.Trees.{run-tree}
+use Rattle.arith.specs.Leaves.{leafCount}
 use Rattle.layout.specs.Records.{words}
 use Rattle.layout.specs.Judgement.{verdict}
 use Rattle.layout.specs.Nodes.{ListedNode, ListedTree, listing}
-use Rattle.layout.specs.WellFormed.{TreeFits, policyCount, PairsFit}
+use Rattle.layout.specs.WellFormed.{TreeFits, PairsFit}
 use Rattle.layout.proofs.Soundness.{tree-sound}
 use Rattle.layout.proofs.ListedLaws.{nodes-listing}
 use Rattle.layout.proofs.SoundNodes.{sound-tree}
@@ -21,7 +22,7 @@ reading-tree t set =
     (ap (λ (ns : List ListedNode). run joined (policyValue set) ns []) (sym (append-nil (postfix t))) ∙ run-tree joined (policyValue set) t [] [])
 
 -- on the listing of a tree that fits, of at most 16 policies, whatever pairs are excluded, the rod never refuses and gives the tree's value
-pub rod-tree : (pairs : List ℕ) (t : ListedTree) (set : ℕ) → PairsFit pairs → TreeFits t → policyCount t ≤ 16
+pub rod-tree : (pairs : List ℕ) (t : ListedTree) (set : ℕ) → PairsFit pairs → TreeFits t → leafCount t ≤ 16
     → rodAnswer (words (listing pairs (postfix t))) set ≡ result (treeValue joined (policyValue set) t)
 unfolding rodAnswer says
 rod-tree pairs t set fit fits room = rw (tree-sound pairs t fit fits room, nodes-listing, reading-tree) refl

@@ -2,7 +2,7 @@
 use Prim.Native.Nat.{ℕ}
 use mathlib.Core.Bool.{Bool, false, not, cond, _&&_, _||_}
 use mathlib.Core.List.{List, [], _∷_}
-use Rattle.arith.specs.Lists.{any}
+use Rattle.arith.specs.Lists.{exists}
 use Rattle.arith.specs.Trees.{run}
 use Rattle.answers.specs.Answers.{Answer, result, onResult}
 use Rattle.signals.specs.Sets.{inside, overlap}
@@ -12,7 +12,7 @@ use Rattle.layout.specs.Nodes.{ListedPolicy, ListedNode, nodes}
 
 -- some line's mask lies wholly inside the set
 unfoldable pub someLine : List ℕ → ℕ → Bool
-someLine lines set = any (λ l. inside l set) lines
+someLine lines set = exists (λ l. inside l set) lines
 
 -- a policy whose mask shares no signal with the set gives quiet; otherwise yes if some line lies inside the set, turned over if turned
 unfoldable pub policyValue : ℕ → ListedPolicy → Bool

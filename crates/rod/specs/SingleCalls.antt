@@ -5,13 +5,13 @@ use mathlib.Core.Logic.{_↔_}
 use mathlib.Core.Path.{_≡_}
 use lib.ListN.{length}
 use Rattle.answers.specs.Answers.{Answer, result, refused, onResult}
-use Rattle.layout.specs.Records.{bit}
+use Rattle.layout.specs.Records.{oneIf}
 use Rattle.rod.specs.Reading.{rodAnswer}
 use Rattle.rod.specs.Traversing.{traversed}
 
 -- the answer of a single call, as a traverse writes it: 1 for yes, 0 for no
 unfoldable pub singleAnswer : List ℕ → ℕ → Answer ℕ
-singleAnswer ws set = onResult (rodAnswer ws set) (λ yes. result (bit yes))
+singleAnswer ws set = onResult (rodAnswer ws set) (λ yes. result (oneIf yes))
 
 pub record SingleCalls : Type 0 where
   -- where a traverse is answered, single calls on its sets refuse nothing, and theirs are the answers, in that order

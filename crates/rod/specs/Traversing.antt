@@ -4,13 +4,13 @@ use mathlib.Core.List.{List, map}
 use lib.Dec.{eqb}
 use lib.ListN.{length}
 use Rattle.answers.specs.Answers.{Answer, result, refused, onResult, require}
-use Rattle.layout.specs.Records.{bit}
+use Rattle.layout.specs.Records.{oneIf}
 use Rattle.layout.specs.Judgement.{verdict}
 use Rattle.rod.specs.Reading.{says}
 
 -- what the words of a sound listing say of each set, in the order of the sets: 1 for yes, 0 for no
 unfoldable pub answersTo : List ℕ → List ℕ → List ℕ
-answersTo ws sets = map (λ set. bit (says ws set)) sets
+answersTo ws sets = map (λ set. oneIf (says ws set)) sets
 
 -- 11 where the sets and the lent answers are not equally many, before the listing is examined; the listing's refusal; or the answers
 unfoldable pub traversed : (ws sets lent : List ℕ) → Answer (List ℕ)

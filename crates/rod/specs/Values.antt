@@ -5,9 +5,9 @@ use mathlib.Core.List.{List, [], _∷_}
 use mathlib.Core.Path.{_≡_}
 use lib.ListN.{length, getD}
 use Rattle.answers.specs.Answers.{result}
-use Rattle.arith.specs.Lists.{Each}
+use Rattle.arith.specs.Members.{Each}
 use Rattle.arith.specs.Trees.{run}
-use Rattle.layout.specs.Records.{Join, and, or, bit}
+use Rattle.layout.specs.Records.{Join, and, or, oneIf}
 use Rattle.layout.specs.Judgement.{SoFar, judged}
 use Rattle.layout.specs.Nodes.{ListedPolicy, leadingLines, nodes}
 use Rattle.layout.specs.Steps.{recordsFrom}
@@ -16,7 +16,7 @@ use Rattle.rod.specs.Reading.{policyValue, joined, remaining, says}
 -- values as bits of a number, the last in the lowest bit
 unfoldable pub bitsOf : List Bool → ℕ
 bitsOf [] = 0
-bitsOf (b ∷ values) = bit b + 2 * bitsOf values
+bitsOf (b ∷ values) = oneIf b + 2 * bitsOf values
 
 -- one value more
 abbrev pub ValueAdded : Bool → (before after : ℕ) → Type 0

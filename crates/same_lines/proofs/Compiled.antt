@@ -18,7 +18,7 @@ use Rattle.layout.proofs.KeptLaws.{sound-judged}
 use Rattle.rod.specs.Reading.{policyValue, remaining, reading, says, rodAnswer}
 use Rattle.peal.specs.Policies.{Policy, MinMax, Condition, policyAt}
 use Rattle.peal.specs.MasksDecide.{SignalsFit}
-use Rattle.peal.proofs.OrderLaws.{Once}
+use Rattle.arith.specs.Members.{Distinct}
 use Rattle.text.specs.Text.{bytes}
 use Rattle.book.proofs.AskedLaws.{asked-in-range}
 use Rattle.compiler.specs.Compiling.{compiled, returned, leftBy, compiledListing}
@@ -56,7 +56,7 @@ pub record Known (listing : List ℕ) (p : ListedPolicy) : Type 0 where
   pub sound : verdict listing ≡ result tt
   pub saying : (set : ℕ) → says listing set ≡ policyValue set p
   pub incomparable : Incomparable p
-  pub once : Once (p .lines)
+  pub once : Distinct (p .lines)
 
 module _ (listing : List ℕ) (p : ListedPolicy) (h : OnePolicy listing p) where
   ran : returned (compiled (h .bytes) (h .number) (length (h .lent))) ≡ result (h .count)

@@ -4,15 +4,15 @@ use mathlib.Core.Bool.{Bool, true, false, not, cond}
 use mathlib.Core.Logic.{_⊎_, inl, inr, ⊎-elim}
 use mathlib.Core.Path.{_≡_, refl, sym, ap, ap₂, subst, _∙_}
 use native.Mathlib.Omega.{arith}
-use Rattle.arith.specs.Lists.{any}
-use Rattle.arith.proofs.AnyEvery.{any-in, any-out}
+use Rattle.arith.specs.Lists.{exists}
+use Rattle.arith.proofs.EveryExists.{exists-in, exists-out}
 use Rattle.arith.proofs.Order.{le-or-lt}
 use Rattle.arith.proofs.Tests.{clash, not-yes}
 use Rattle.signals.specs.Sets.{inside, overlap}
 use Rattle.signals.proofs.SetOfLaws.{inside-self, inside-then, overlap-then, inside-le}
 use Rattle.layout.specs.Nodes.{ListedPolicy}
 use Rattle.rod.specs.Reading.{someLine, policyValue}
-use Rattle.peal.specs.SetsOfRules.{Among}
+use Rattle.arith.specs.Members.{Among}
 
 -- what is known of the lines of a compiled policy: none lies inside another
 pub record Incomparable (p : ListedPolicy) : Type 0 where
@@ -60,9 +60,9 @@ value-plain r a plain set = go (overlap (r .mask) set) refl
     go : (o : Bool) → overlap (r .mask) set ≡ o → cond o (byLines r set) (r .quiet) ≡ byLines r set
     go true e = refl
     go false e =
-        let none : any (λ l. inside l set) (r .lines) ≡ false =
-        not-yes (any (λ l. inside l set) (r .lines)) (λ h.
-        let (l, m, i) = any-out (λ l. inside l set) (r .lines) h in clash (overlap-then (r .mask) l set (a .shares l m) i) e) in
+        let none : exists (λ l. inside l set) (r .lines) ≡ false =
+        not-yes (exists (λ l. inside l set) (r .lines)) (λ h.
+        let (l, m, i) = exists-out (λ l. inside l set) (r .lines) h in clash (overlap-then (r .mask) l set (a .shares l m) i) e) in
         plain ∙ rw none (own (r .turned))
 
 module _ (p q : ListedPolicy) (a : Incomparable p) (b : Incomparable q) (turned : p .turned ≡ q .turned) where
@@ -112,9 +112,9 @@ module _ (p q : ListedPolicy) (a : Incomparable p) (b : Incomparable q) (bound :
   pub line-there : (l : ℕ) → ((set : ℕ) → set ≤ l → policyValue set p ≡ policyValue set q) → Among l (p .lines) → Among l (q .lines)
   unfolding someLine
   line-there l alike x =
-      let (m, y, i) = any-out (λ k. inside k l) (q .lines) (sym (both-lines l (inl x) (alike l (omega arith))) ∙ any-in (λ k. inside k l) x (inside-self l)) in
+      let (m, y, i) = exists-out (λ k. inside k l) (q .lines) (sym (both-lines l (inl x) (alike l (omega arith))) ∙ exists-in (λ k. inside k l) x (inside-self l)) in
       let below : m ≤ l = inside-le m l (b .small m y) i in
-      let (k, z, j) = any-out (λ k. inside k m) (p .lines) (both-lines m (inr y) (alike m below) ∙ any-in (λ k. inside k m) y (inside-self m)) in
+      let (k, z, j) = exists-out (λ k. inside k m) (p .lines) (both-lines m (inr y) (alike m below) ∙ exists-in (λ k. inside k m) y (inside-self m)) in
       let itself : k ≡ l = a .same l k x z (inside-then k m l j i) in
       let same : m ≡ l = omega (arith, itself, inside-le k m (a .small k z) j, below) in
       subst (λ (n : ℕ). Among n (q .lines)) same y
@@ -124,8 +124,8 @@ module _ (p q : ListedPolicy) (a : Incomparable p) (b : Incomparable q) (bound :
       → someLine (p .lines) set ≡ true → someLine (q .lines) set ≡ false → Among set (p .lines) × (Among set (q .lines) → ⊥)
   unfolding someLine
   line-here set alike mine other =
-      let (l, x, i) = any-out (λ l. inside l set) (p .lines) mine in
+      let (l, x, i) = exists-out (λ l. inside l set) (p .lines) mine in
       let reached : set ≤ l =
-      ⊎-elim (λ (h : set ≤ l). h) (λ (h : l < set). clash (any-in (λ l. inside l set) (line-there l (λ k g. alike k (omega arith)) x) i) other) (le-or-lt set l) in
+      ⊎-elim (λ (h : set ≤ l). h) (λ (h : l < set). clash (exists-in (λ l. inside l set) (line-there l (λ k g. alike k (omega arith)) x) i) other) (le-or-lt set l) in
       let same : l ≡ set = omega (arith, reached, inside-le l set (a .small l x) i) in
-      (subst (λ (n : ℕ). Among n (p .lines)) same x, λ y. clash (any-in (λ l. inside l set) y (inside-self set)) other)
+      (subst (λ (n : ℕ). Among n (p .lines)) same x, λ y. clash (exists-in (λ l. inside l set) y (inside-self set)) other)

@@ -7,9 +7,9 @@ use mathlib.Core.Path.{_≡_, refl, sym, ap, subst, _∙_}
 use native.Mathlib.Omega.{arith}
 use Rattle.answers.specs.Answers.{result}
 use Rattle.answers.proofs.Results.{result-is}
-use Rattle.arith.proofs.AnyEvery.{any-in}
+use Rattle.arith.proofs.EveryExists.{exists-in}
 use Rattle.arith.proofs.Order.{le-or-lt}
-use Rattle.arith.proofs.Reordering.{any-reordered}
+use Rattle.arith.proofs.Reordering.{exists-reordered}
 use Rattle.arith.proofs.Tests.{clash, beq-same, beq-self}
 use Rattle.signals.specs.Sets.{inside}
 use Rattle.signals.proofs.SetOfLaws.{inside-self}
@@ -22,8 +22,8 @@ use Rattle.checks.specs.Meaning.{comparisonMeaning}
 use Rattle.checks.specs.declared.ComparisonAnswer.{ComparisonAnswer}
 use Rattle.checks.specs.declared.ComparisonAnswer.the-variants.{Alike, FirstYes, SecondYes, FirstDeclined, SecondDeclined}
 use Rattle.checks.proofs.Answers.{comparison-tells, alike-tells}
-use Rattle.peal.specs.SetsOfRules.{Among}
-use Rattle.peal.proofs.OrderLaws.{once-reordered}
+use Rattle.arith.specs.Members.{Among}
+use Rattle.arith.proofs.Distinct.{same-members}
 use Rattle.same_lines.specs.SameLines.{SameKind, SameKindAndMask, SamePlainKind, NoExclusions, TwoPolicies, SameLines, OfOneAlone, LowestOfOneAlone, AlikeOn, DecideAlike, LowestApart, Compared, otherOf, AloneOf, NamesLine, LinesTell, SameLinesSamePolicy}
 use Rattle.same_lines.proofs.Lines.{Incomparable, byLines, Bound, bound-back, bound-by-mask, bound-by-lines, line-there, line-here}
 use Rattle.same_lines.proofs.Compiled.{Known, known}
@@ -98,11 +98,11 @@ module _ (one two : List ℕ) (p q : ListedPolicy) (a : Known one p) (b : Known 
   -- with the same lines they say the same of every set, and the other way round
   lines-then : SameLines p q → (set : ℕ) → SameValue set
   unfolding someLine
-  lines-then lines set = bound .alike set (any-reordered (λ l. inside l set) lines)
+  lines-then lines set = bound .alike set (exists-reordered (λ l. inside l set) lines)
 
   then-lines : ((set : ℕ) → set ≤ 65535 → SameValue set) → SameLines p q
   then-lines same =
-      once-reordered (p .lines) (q .lines) (a .once) (b .once) (λ l. (
+      same-members (p .lines) (q .lines) (a .once) (b .once) (λ l. (
         λ m. line-of-both l (λ i k. same i (omega (arith, a .incomparable .small l m))) .0 m,
         λ m. line-of-both l (λ i k. same i (omega (arith, b .incomparable .small l m))) .1 m,
       ))
@@ -137,7 +137,7 @@ module _ (one two : List ℕ) (p q : ListedPolicy) (a : Known one p) (b : Known 
   -- what a policy says of a line of its own
   of-own-line : (r : ListedPolicy) (set : ℕ) → Among set (r .lines) → policyValue set r ≡ byLines r set → policyValue set r ≡ cond (r .turned) false true
   unfolding someLine
-  of-own-line r set m e = e ∙ ap (λ (s : Bool). cond (r .turned) (not s) s) (any-in (λ l. inside l set) m (inside-self set))
+  of-own-line r set m e = e ∙ ap (λ (s : Bool). cond (r .turned) (not s) s) (exists-in (λ l. inside l set) m (inside-self set))
 
   -- where they do not say the same, the one that has the line is told by what the first says
   line-owner : (set : ℕ) → (SameValue set → ⊥) → OfOneAlone p q set → AloneOf p q (owner (p .turned) (policyValue set p)) set

@@ -12,7 +12,7 @@ use Rattle.checks.specs.Checks.{Which, first, second, differ, comparison}
 use Rattle.checks.specs.Meaning.{comparisonMeaning}
 use Rattle.checks.specs.declared.ComparisonAnswer.{ComparisonAnswer}
 use Rattle.checks.specs.declared.ComparisonAnswer.the-variants.{Alike}
-use Rattle.peal.specs.SetsOfRules.{Among}
+use Rattle.arith.specs.Members.{Among}
 use Rattle.compiler.specs.Compiling.{compiledListing}
 use Rattle.compiler.specs.Meaning.{CompilingRan}
 use Rattle.compiler.specs.declared.Compiled.the-variants.{Records}

@@ -8,7 +8,8 @@ use lib.Dec.{eqb}
 use lib.IntN.{ℤ}
 use lib.ListN.{length, getD, set as put, drop, length-drop, length-set, drop-of-length-le}
 use lib.Seq.{drop-cons}
-use Rattle.arith.specs.Trees.{Node, value, joining, postfix, LeavesOne, taken, run}
+use Rattle.arith.specs.Trees.{Node, value, joining, postfix, joinedLast, run}
+use Rattle.arith.specs.Leaves.{LeavesOne}
 use Rattle.arith.proofs.Trees.{run-tree, tree-leaves-one, few-values}
 use Rattle.peal.specs.Policies.{Policy, MinMax, smaller, larger, Expression, policyAt}
 use Rattle.peal.specs.Score.{ofTwo, policyScore, score}
@@ -102,7 +103,7 @@ module _ (ps : List Policy) (set : ℕ) (e : Expression) where
       -- the last two scores are values, and the chosen one takes their place
       pub after-join : 2 ≤ h → h ≤ 16 → (x : Exact) → ((v w : ℤ) → Is (getD s (h - 2) noScore) v → Is (getD s (h - 1) noScore) w → Is x (ofTwo j v w))
           → Underway ps set e (i + 1) (put s (h - 2) x) (h - 1)
-      unfolding run taken
+      unfolding run joinedLast
       after-join a b x f = go (u .values) (u .held) (enough-joined .0) (enough-joined .1) (u .few) (sym (ap (λ (ns : Nodes). run ofTwo worth ns (u .values)) here) ∙ u .same)
         where
           go : (vs : List ℤ) → Holds s h vs → 2 ≤ length vs → LeavesOne (drop (i + 1) (postfix e)) (length vs - 1) → length vs ≤ i

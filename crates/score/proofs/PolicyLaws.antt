@@ -11,7 +11,7 @@ use lib.Signed.{mag}
 use Rattle.arith.proofs.Signed.{mag-add}
 use Rattle.arith.proofs.Whole.{times-one}
 use Rattle.peal.specs.Policies.{Rule, Policy, MinMax, smaller, larger}
-use Rattle.peal.specs.Score.{scaled, total, product, scaledProduct, ofTwo, ofAll, applied}
+use Rattle.peal.specs.Score.{scaled, total, scoreProduct, scaledProduct, ofTwo, ofAll, applied}
 use Rattle.peal.specs.Combining.{combinedOf}
 use Rattle.peal.specs.declared.Operator.{Operator}
 use Rattle.peal.specs.declared.Operator.the-variants.{Min, Max, Sum, Mul}
@@ -35,8 +35,8 @@ unfolding over combinedOf total
 over-sum r [] = sym (+ℤ-idr (r .score))
 over-sum r (q ∷ rs) = ap (λ (z : ℤ). r .score +ℤ z) (over-sum q rs)
 
-over-mul : (r : Rule) (rs : List Rule) → over Mul r rs ≡ product (r ∷ rs)
-unfolding over combinedOf product
+over-mul : (r : Rule) (rs : List Rule) → over Mul r rs ≡ scoreProduct (r ∷ rs)
+unfolding over combinedOf scoreProduct
 over-mul r [] = sym (times-one (r .score))
 over-mul r (q ∷ rs) = ap (λ (z : ℤ). r .score *ℤ z) (over-mul q rs)
 

@@ -11,10 +11,12 @@ use lib.Signed.{mag}
 use Rattle.arith.specs.Options.{if_then_}
 use Rattle.arith.proofs.Keep.{keep-few, each-keep, each-drop}
 use Rattle.signals.specs.Sets.{present}
-use Rattle.peal.specs.Policies.{Rule, Policy, noRule}
+use Rattle.peal.specs.Policies.{Rule, Policy}
+use Rattle.peal.specs.Standins.{noRule}
 use Rattle.peal.specs.Score.{scaled, presentRules, applied, scoreOf, policyScore}
 use Rattle.peal.specs.declared.Operator.{Operator}
 use Rattle.peal.specs.declared.Operator.the-variants.{Mul}
+use Rattle.limits.specs.Limits.{defaultInRange}
 use Rattle.book.specs.Ranges.{PolicyInRange}
 use Rattle.book.proofs.RangeLaws.{rules-at-most}
 use Rattle.book.proofs.ScoreSizes.{within-mag, InScore, InRange, Room}
@@ -99,7 +101,7 @@ module _ (set : ℕ) (q : Policy) (r : PolicyInRange q) (i : ℕ) where
   fewer = omega (arith, keep-few (λ (x : Rule). present set (x .signal)) (drop i (q .rules)), length-drop i (q .rules))
 
   pub present-value-small : mag (presentOf q (presentRules set (drop i (q .rules))) .value) ≤ 10 ^ 16
-  unfolding presentRules
+  unfolding presentRules defaultInRange
   present-value-small =
       value-small q (presentRules set (drop i (q .rules))) (within-mag 10000 10000 (q .default) (r .default) 10000 (omega arith) (omega arith))
       (each-keep (λ (x : Rule). present set (x .signal)) (InScore (q .operator)) (drop i (q .rules)) (each-drop (InScore (q .operator)) i (q .rules) (r .scores)))

@@ -11,7 +11,7 @@ use lib.ListN.{length}
 use lib.Pow.{pow-add}
 use lib.Signed.{leZ}
 use borrow.Author.Tests.{leb-true, le-leb}
-use Rattle.arith.specs.Lists.{Each}
+use Rattle.arith.specs.Members.{Each}
 use Rattle.arith.specs.Trees.{leaf, join, treeValue}
 use Rattle.arith.proofs.Each.{each-default}
 use Rattle.arith.proofs.Keep.{keep-few, each-keep}
@@ -26,7 +26,7 @@ use Rattle.peal.specs.declared.Operator.the-variants.{Min, Max, Sum, Mul}
 use Rattle.peal.specs.SearchFindsLines.{scoreFits}
 use Rattle.peal.proofs.HavingLaws.{product-natural}
 use Rattle.peal.proofs.TwoLaws.{one-of-two}
-use Rattle.book.specs.Acceptance.{within, scoreInRange}
+use Rattle.limits.specs.Limits.{within, defaultInRange, scoreInRange}
 use Rattle.book.specs.Ranges.{PolicyInRange}
 use Rattle.book.proofs.RangeLaws.{rules-at-most}
 use Rattle.book.proofs.ScoreSizes.{InScore, InRange, Room}
@@ -124,7 +124,7 @@ score-of-in p [] d h k = one-in (p .default) d
 score-of-in p (r ∷ rs) d h k = applied-in (p .operator) r rs h k
 
 policy-in : (set : ℕ) (p : Policy) → PolicyInRange p → InParts (policyScore set p)
-unfolding policyScore presentRules
+unfolding policyScore presentRules defaultInRange
 policy-in set p range =
     let here : Rule → Bool = λ r. present set (r .signal) in
     let few = keep-few here (p .rules) in

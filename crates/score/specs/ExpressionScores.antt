@@ -4,7 +4,8 @@ use mathlib.Core.List.{List, [], _∷_}
 use mathlib.Core.Path.{_≡_}
 use lib.IntN.{ℤ, pos}
 use lib.ListN.{length, getD, drop}
-use Rattle.arith.specs.Trees.{postfix, LeavesOne, run}
+use Rattle.arith.specs.Trees.{postfix, run}
+use Rattle.arith.specs.Leaves.{LeavesOne}
 use Rattle.peal.specs.Policies.{Policy, Expression, Condition, policyAt}
 use Rattle.peal.specs.Score.{ofTwo, policyScore, score}
 use Rattle.book.specs.Ranges.{ConditionKept}

@@ -6,7 +6,7 @@ ghost use mathlib.Core.Path.{_≡_};
 ghost use Prim.Native.Nat.{_^_, _≤_, _<_};
 ghost use lib.ListN.{length, getD};
 ghost use lib.Signed.{mag};
-ghost use Rattle.peal.specs.Policies.{noRule};
+ghost use Rattle.peal.specs.Standins.{noRule};
 ghost use Rattle.peal.specs.Score.{presentRules, policyScore};
 ghost use Rattle.book.specs.Ranges.{PolicyKept};
 ghost use Rattle.score.specs.Pairs.{Is};

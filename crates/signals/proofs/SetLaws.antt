@@ -8,10 +8,10 @@ use lib.Bits.{bitAnd, and-step, and-zero-l, and-le-l}
 use lib.Bits as bits
 use lib.Dec.{eqb, leb}
 use borrow.Author.Tests.{eq-eqb, ne-eqb, leb-true, leb-false}
-use Rattle.arith.specs.Lists.{every, any, below}
-use Rattle.arith.proofs.AnyEvery.{any-same}
+use Rattle.arith.specs.Lists.{every, exists, below}
+use Rattle.arith.proofs.EveryExists.{exists-same}
 use Rattle.arith.proofs.Digits.{digits, two-digits}
-use Rattle.arith.proofs.Tests.{not-and, every-low, any-low}
+use Rattle.arith.proofs.Tests.{not-and, every-low, exists-low}
 use Rattle.signals.specs.Sets.{signals, isSet, present, inside, overlap}
 
 pub present-zero : (a : ℕ) → present a 0 ≡ eqb (a % 2) 1
@@ -44,13 +44,13 @@ inside-below (suc n) a b h =
     ∙ ap₂ (λ (x y : ℕ). eqb x y) (sym (and-step a b)) hd
 
 -- for masks of n signals: a and b share a signal where `a & b != 0`
-pub overlap-below : (n a b : ℕ) → a < 2 ^ n → any (λ s. present a s && present b s) (below n) ≡ not (eqb (bitAnd a b) 0)
+pub overlap-below : (n a b : ℕ) → a < 2 ^ n → exists (λ s. present a s && present b s) (below n) ≡ not (eqb (bitAnd a b) 0)
 overlap-below zero a b h =
     let z : a ≡ 0 = omega arith in
     sym (ap not (eq-eqb (bitAnd a b) 0 (ap (λ (x : ℕ). bitAnd x b) z ∙ and-zero-l b)))
 overlap-below (suc n) a b h =
     let hb : a / 2 < 2 ^ n = omega (arith, pow-suc 2 n) in
-    any-low n (λ s. present a s && present b s)
+    exists-low n (λ s. present a s && present b s)
     ∙ simp (present-zero, present-suc, overlap-below n (a / 2) (b / 2) hb)
     (ap (λ (t : Bool). t || not (eqb (bitAnd (a / 2) (b / 2)) 0)) (digit-both (a % 2) (b % 2) (omega arith) (omega arith)))
     ∙ sym (not-and (eqb (min (a % 2) (b % 2)) 0) (eqb (bitAnd (a / 2) (b / 2)) 0))
@@ -86,7 +86,7 @@ inside-and mask set h = inside-below 16 mask set h
 pub overlap-and : (mask set : ℕ) → set < 2 ^ 16 → overlap mask set ≡ not (eqb (bitAnd mask set) 0)
 unfolding overlap signals
 overlap-and mask set h =
-    any-same (λ s. present mask s && present set s) (λ s. present set s && present mask s) signals (λ s m. and-comm (present mask s) (present set s))
+    exists-same (λ s. present mask s && present set s) (λ s. present set s && present mask s) signals (λ s m. and-comm (present mask s) (present set s))
     ∙ overlap-below 16 set mask h
     ∙ ap (λ (x : ℕ). not (eqb x 0)) (bits.and-comm set mask)
 

@@ -11,9 +11,11 @@ use lib.Bits.{bitAnd, and-le-r}
 use lib.Dec.{eqb, eqb·zero-suc, eqb·suc-zero, eqb·suc-suc}
 use lib.Pow.{pow-pos}
 use borrow.Author.Tests.{eqb-true, eqb-false, eq-eqb, ne-eqb, leb-true}
-use Rattle.arith.specs.Lists.{every, any, below, isIn, AllBelow, Distinct}
-use Rattle.arith.proofs.AnyEvery.{any-in, any-out, every-all, every-same, any-same}
-use Rattle.arith.proofs.Below.{every-listed, any-listed, every-below}
+use Rattle.arith.specs.Lists.{every, exists, below}
+use Rattle.arith.specs.Members.{Each, Distinct}
+use Rattle.arith.proofs.EveryExists.{exists-in, exists-out, every-all, every-same, exists-same}
+use Rattle.arith.proofs.Below.{every-listed, exists-listed, every-below}
+use Rattle.arith.proofs.Distinct.{isIn, each-absent}
 use Rattle.arith.proofs.Members.{each-in, each-out, every-each, each-every}
 use Rattle.arith.proofs.Tests.{clash, not-yes, and-left}
 use Rattle.signals.specs.Sets.{signals, isSet, present, inside, overlap, size, isPair, setOf}
@@ -56,14 +58,14 @@ below-more (suc n) (suc s) m k l h =
 pub present-set : (ss : List ℕ) → Distinct ss → (i : ℕ) → present (setOf ss) i ≡ isIn i ss
 unfolding setOf
 present-set [] d i = present-none i
-present-set (s ∷ ss) d i = present-more s (setOf ss) i (present-set ss (d .1) s ∙ d .0) ∙ ap (λ (t : Bool). eqb s i || t) (present-set ss (d .1) i)
+present-set (s ∷ ss) d i = present-more s (setOf ss) i (present-set ss (d .1) s ∙ each-absent s ss (d .0)) ∙ ap (λ (t : Bool). eqb s i || t) (present-set ss (d .1) i)
 
-pub set-below : (n : ℕ) (ss : List ℕ) → AllBelow n ss → Distinct ss → setOf ss < 2 ^ n
+pub set-below : (n : ℕ) (ss : List ℕ) → Each (_< n) ss → Distinct ss → setOf ss < 2 ^ n
 unfolding setOf
 set-below n [] b d = pow-pos n
-set-below n (s ∷ ss) b d = below-more n s (setOf ss) (b .0) (set-below n ss (b .1) (d .1)) (present-set ss (d .1) s ∙ d .0)
+set-below n (s ∷ ss) b d = below-more n s (setOf ss) (b .0) (set-below n ss (b .1) (d .1)) (present-set ss (d .1) s ∙ each-absent s ss (d .0))
 
-module _ (ss : List ℕ) (b : AllBelow 16 ss) (d : Distinct ss) (set : ℕ) where
+module _ (ss : List ℕ) (b : Each (_< 16) ss) (d : Distinct ss) (set : ℕ) where
   -- it lies inside a set where each of the signals is present
   pub inside-set : inside (setOf ss) set ≡ every (present set) ss
   unfolding inside signals
@@ -73,12 +75,12 @@ module _ (ss : List ℕ) (b : AllBelow 16 ss) (d : Distinct ss) (set : ℕ) wher
       ∙ every-listed (present set) 16 ss b
 
   -- it shares a signal with a set where some signal is present
-  pub overlap-set : overlap (setOf ss) set ≡ any (present set) ss
+  pub overlap-set : overlap (setOf ss) set ≡ exists (present set) ss
   unfolding overlap signals
   overlap-set =
-      any-same (λ i. present (setOf ss) i && present set i) (λ i. isIn i ss && present set i) signals
+      exists-same (λ i. present (setOf ss) i && present set i) (λ i. isIn i ss && present set i) signals
       (λ i m. ap (λ (t : Bool). t && present set i) (present-set ss d i))
-      ∙ any-listed (present set) 16 ss b
+      ∙ exists-listed (present set) 16 ss b
 
 -- ---- one set inside another
 
@@ -110,8 +112,8 @@ inside-then a b c h k =
 pub overlap-then : (a b c : ℕ) → overlap a b ≡ true → inside b c ≡ true → overlap a c ≡ true
 unfolding overlap
 overlap-then a b c h k =
-    let (s, m, shared) = any-out (λ s. present a s && present b s) signals h in
-    any-in (λ s. present a s && present c s) m (through (present a s) (present b s) (present c s) shared (signal-there b c k m))
+    let (s, m, shared) = exists-out (λ s. present a s && present b s) signals h in
+    exists-in (λ s. present a s && present c s) m (through (present a s) (present b s) (present c s) shared (signal-there b c k m))
   where
     through : (x y z : Bool) → (x && y) ≡ true → (not y || z) ≡ true → (x && z) ≡ true
     through false y z p q = p

@@ -4,7 +4,7 @@ use mathlib.Core.Bool.{Bool, not, _&&_, _||_}
 use mathlib.Core.List.{List, [], _∷_}
 use lib.Dec.{eqb, leb}
 use lib.ListN.{length}
-use Rattle.arith.specs.Lists.{every, any, keep, below}
+use Rattle.arith.specs.Lists.{every, exists, keep, below}
 
 -- the signals are 0 to 15
 unfoldable pub signals : List ℕ
@@ -24,7 +24,7 @@ inside mask set = every (λ s. not (present mask s) || present set s) signals
 
 -- the mask shares a signal with the set
 unfoldable pub overlap : ℕ → ℕ → Bool
-overlap mask set = any (λ s. present mask s && present set s) signals
+overlap mask set = exists (λ s. present mask s && present set s) signals
 
 -- how many signals a set has
 unfoldable pub size : ℕ → ℕ

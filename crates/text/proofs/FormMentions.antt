@@ -15,7 +15,7 @@ use Rattle.text.specs.Text.{bytes, longer, parted, space, fields, is}
 use Rattle.text.specs.Numbers.{natural, number}
 use Rattle.text.specs.Expressions.{expression}
 use Rattle.text.specs.Forms.{Form, oldZero, policy, rule, exclusion, condition, operator, sense, barePolicy, fullPolicy, ruleLine, exclusionLine, conditionLine, formOf, form}
-use Rattle.arith.specs.Trees.{leafCount}
+use Rattle.arith.specs.Leaves.{leafCount}
 use Rattle.text.proofs.FieldLaws.{number-length, sense-length}
 use Rattle.text.proofs.MentionLaws.{expression-fits}
 use Rattle.text.proofs.WordLaws.{is-length}

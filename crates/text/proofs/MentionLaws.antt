@@ -6,7 +6,8 @@ use mathlib.Core.Option.{Option, none, some}
 use mathlib.Core.Path.{_≡_, refl, ap}
 use native.Mathlib.Omega.{arith}
 use lib.ListN.{length, take, drop, length-append, length-drop, length-take}
-use Rattle.arith.specs.Trees.{leaf, join, joining, leafCount}
+use Rattle.arith.specs.Trees.{leaf, join, joining}
+use Rattle.arith.specs.Leaves.{leafCount}
 use Rattle.arith.proofs.Options.{Finds, finds-that, finds-then, finds-if}
 use Rattle.peal.specs.Policies.{MinMax, Expression}
 use Rattle.text.specs.Text.{bytes, begins, after}

@@ -2,7 +2,7 @@
 use Prim.Native.Nat.{ℕ}
 use mathlib.Core.List.{List, [], _∷_, map}
 use lib.IntN.{ℤ}
-use Rattle.arith.specs.Lists.{Each}
+use Rattle.arith.specs.Members.{Each}
 use Rattle.arith.proofs.Members.{each-in}
 use Rattle.layout.specs.WellFormed.{LinesFit, PolicyFits}
 use Rattle.peal.specs.Policies.{Rule, Policy, maskOf}

@@ -5,13 +5,12 @@ use mathlib.Core.Path.{_≡_, refl, sym, ap, _∙_}
 use lib.Dec.{lit<}
 use lib.IntN.{ℤ}
 use lib.Signed.{leZ, ltZ}
-use Rattle.arith.specs.Lists.{any}
+use Rattle.arith.specs.Lists.{exists}
 use Rattle.arith.proofs.Order.{ltZ-not, leZ-scale, ltZ-scale}
 use Rattle.peal.specs.Policies.{Rule, Policy, smaller, larger}
 use Rattle.peal.specs.Score.{scaled, total, ofAll, applied, scoreOf, meets}
-use Rattle.peal.specs.Lines.{sumAbove, productAtMost}
+use Rattle.peal.specs.Lines.{has}
 use Rattle.translation.specs.Translation.{quiet, turned}
-use Rattle.peal.specs.Having.{has}
 use Rattle.translation.specs.MeetingIsHaving.{turnedOver, MeetingIsHaving}
 use Rattle.translation.specs.QuietIsMeeting.{QuietIsMeeting}
 use Rattle.peal.specs.declared.Operator.{Operator}
@@ -34,14 +33,14 @@ at-most-scaled a b = leZ-scale a b 100000000000000 (lit< tt)
 
 module _ (t : ℤ) where
   sum-has : (r : Rule) (rs : List Rule) → meets Above t (applied Sum r rs) ≡ has Sum t (r ∷ rs)
-  unfolding meets applied has sumAbove
+  unfolding meets applied has
   sum-has r rs = above-scaled t (total (r ∷ rs))
 
   mul-has : (r : Rule) (rs : List Rule) → meets AtMost t (applied Mul r rs) ≡ has Mul t (r ∷ rs)
-  unfolding meets applied has productAtMost
+  unfolding meets applied has
   mul-has r rs = refl
 
-  largest-above : (r : Rule) (rs : List Rule) → ltZ t (ofAll larger r rs) ≡ any (λ (q : Rule). ltZ t (q .score)) (r ∷ rs)
+  largest-above : (r : Rule) (rs : List Rule) → ltZ t (ofAll larger r rs) ≡ exists (λ (q : Rule). ltZ t (q .score)) (r ∷ rs)
   unfolding ofAll
   largest-above r [] = sym (or-false (ltZ t (r .score)))
   largest-above r (q ∷ rs) = larger-above t (r .score) (ofAll larger q rs) ∙ ap (λ (b : Bool). ltZ t (r .score) || b) (largest-above q rs)
@@ -50,7 +49,7 @@ module _ (t : ℤ) where
   unfolding meets applied has
   max-has r rs = above-scaled t (ofAll larger r rs) ∙ largest-above r rs
 
-  smallest-at-most : (r : Rule) (rs : List Rule) → leZ (ofAll smaller r rs) t ≡ any (λ (q : Rule). leZ (q .score) t) (r ∷ rs)
+  smallest-at-most : (r : Rule) (rs : List Rule) → leZ (ofAll smaller r rs) t ≡ exists (λ (q : Rule). leZ (q .score) t) (r ∷ rs)
   unfolding ofAll
   smallest-at-most r [] = sym (or-false (leZ (r .score) t))
   smallest-at-most r (q ∷ rs) = smaller-at-most t (r .score) (ofAll smaller q rs) ∙ ap (λ (b : Bool). leZ (r .score) t || b) (smallest-at-most q rs)

@@ -10,7 +10,7 @@ use Rattle.arith.specs.Trees.{Tree, leaf, join, value, joining, postfix, mapTre
 use Rattle.arith.proofs.Each.{each-default}
 use Rattle.layout.specs.Records.{Join}
 use Rattle.layout.specs.Nodes.{ListedPolicy, ListedNode, lineRecords, nodeRecords, exclusionRecords, listing}
-use Rattle.layout.specs.WellFormed.{policyCount}
+use Rattle.arith.specs.Leaves.{leafCount}
 use Rattle.layout.proofs.WordsBelow.{lines-count, exclusions-count}
 use Rattle.peal.specs.Policies.{Policy, emptyPolicy, policyAt, maskOf}
 use Rattle.peal.specs.Lines.{lines}
@@ -40,8 +40,8 @@ count-append (joining j ∷ ns) ms = omega (arith, count-append ns ms)
 
 -- a tree whose policies have at most m lines each
 module _ {J L : Type 0} (onJoin : J → Join) (onLeaf : L → ListedPolicy) (m : ℕ) (few : (l : L) → length (onLeaf l .lines) ≤ m) where
-  count-tree : (t : Tree J L) → recordCount (postfix (mapTree onJoin onLeaf t)) + 1 ≤ policyCount (mapTree onJoin onLeaf t) * (m + 2)
-  unfolding postfix mapTree policyCount
+  count-tree : (t : Tree J L) → recordCount (postfix (mapTree onJoin onLeaf t)) + 1 ≤ leafCount (mapTree onJoin onLeaf t) * (m + 2)
+  unfolding postfix mapTree leafCount
   count-tree (leaf l) = omega (arith, few l)
   count-tree (join j a b) =
       let A = postfix (mapTree onJoin onLeaf a) in

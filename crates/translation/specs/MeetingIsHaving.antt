@@ -6,7 +6,7 @@ use lib.IntN.{ℤ}
 use Rattle.peal.specs.Policies.{Rule, Policy}
 use Rattle.peal.specs.Score.{scoreOf, meets}
 use Rattle.translation.specs.Translation.{turned}
-use Rattle.peal.specs.Having.{has}
+use Rattle.peal.specs.Lines.{has}
 use Rattle.peal.specs.declared.Sense.{Sense}
 
 -- an answer, turned over if turned

@@ -1,8 +1,8 @@
 -- Claimed: how many records a condition's listing has at most.
 use Prim.Native.Nat.{_+_, _*_, _≤_}
 use lib.ListN.{length}
-use Rattle.arith.specs.Lists.{Each}
-use Rattle.layout.specs.WellFormed.{policyCount}
+use Rattle.arith.specs.Members.{Each}
+use Rattle.arith.specs.Leaves.{leafCount}
 use Rattle.peal.specs.Policies.{Policy, Condition, Book}
 use Rattle.translation.specs.Translation.{translated, listingRecords}
 
@@ -10,4 +10,4 @@ use Rattle.translation.specs.Translation.{translated, listingRecords}
 abbrev pub RecordsAreFew : Type 0
 RecordsAreFew =
     (b : Book) (c : Condition) → Each (λ (p : Policy). length (p .rules) ≤ 16) (b .policies)
-    → length (b .exclusions) ≤ 16 → policyCount (translated (b .policies) c) ≤ 16 → length (listingRecords b c) ≤ 16 + 16 * (1 + 65536) + 15
+    → length (b .exclusions) ≤ 16 → leafCount (translated (b .policies) c) ≤ 16 → length (listingRecords b c) ≤ 16 + 16 * (1 + 65536) + 15

@@ -40,12 +40,8 @@ turned Above Min = true
 -- the record of a mention: flags, the mask of all the policy's signals, its lines
 unfoldable pub listed : Sense → ℤ → Policy → ListedPolicy
 listed s t p =
-    record {
-      quiet = quiet s t p;
-      turned = turned s (p .operator);
-      mask = maskOf (p .rules);
-      lines = map maskOf (lines (p .operator) t (p .rules));
-    }
+    let sets = lines (p .operator) t (p .rules) in
+    record { quiet = quiet s t p; turned = turned s (p .operator); mask = maskOf (p .rules); lines = map maskOf sets }
 
 -- the tree of a condition
 unfoldable pub translated : List Policy → Condition → ListedTree

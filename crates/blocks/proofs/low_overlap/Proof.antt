@@ -3,7 +3,7 @@ use Prim.Native.Nat.{_-_, _≤_}
 use mathlib.Core.Bool.{_&&_}
 use native.Mathlib.Omega.{arith}
 use borrow.Author.Needs.{needs}
-use Rattle.arith.specs.Lists.{any, below}
+use Rattle.arith.specs.Lists.{exists, below}
 use Rattle.signals.specs.Sets.{present}
 use Rattle.signals.proofs.BitLaws.{present-none}
 use Rattle.blocks.specs.Blocks.{WordOf}
@@ -12,7 +12,7 @@ use Rattle.blocks.proofs.low_overlap.Statement.{statement}
 use Rattle.blocks.proofs.low_overlap.Tie as tie
 
 abbrev Inv-loop : tie.InvT-loop
-Inv-loop low word₀ signal₀ word signal = (signal ≤ 6) × WordOf (λ j. any (λ s. present low s && present j s) (below signal)) word
+Inv-loop low word₀ signal₀ word signal = (signal ≤ 6) × WordOf (λ j. exists (λ s. present low s && present j s) (below signal)) word
 
 abbrev μ-loop : tie.MeasureT-loop
 μ-loop low word₀ signal₀ word signal = 6 - signal

@@ -3,7 +3,7 @@ use mathlib.Core.Path.{ap, _∙_}
 use native.Mathlib.Omega.{arith}
 use borrow.Author.Needs.{needs}
 use Rattle.answers.proofs.Results.{in-arm}
-use Rattle.layout.specs.Records.{bit}
+use Rattle.layout.specs.Records.{oneIf}
 use Rattle.score.specs.Meaning.{scoreMeaning}
 use Rattle.exports.specs.Packing.{packed}
 use Rattle.exports.proofs.Refusals.{in-table}
@@ -33,16 +33,16 @@ declined-requires : tie.Need-declined-requires
 declined-requires c κs = omega (arith, in-table (deciding _ _ _) (in-arm scoreMeaning (c .before .before .before .decide .ensures) (c .before .d .given .1)))
 
 returns : tie.Need-returns
-unfolding packed bit
-returns c = let a = c .before in c .accepted .ensures ∙ ap (packed bit) (in-arm scoreMeaning (a .before .before .decide .ensures) (a .enum-told .given .1))
+unfolding packed oneIf
+returns c = let a = c .before in c .accepted .ensures ∙ ap (packed oneIf) (in-arm scoreMeaning (a .before .before .decide .ensures) (a .enum-told .given .1))
 
 returns-2 : tie.Need-returns-2
-unfolding packed bit
-returns-2 c = let a = c .before in c .accepted2 .ensures ∙ ap (packed bit) (in-arm scoreMeaning (a .before .before .decide .ensures) (a .enum-told2 .given .1))
+unfolding packed oneIf
+returns-2 c = let a = c .before in c .accepted2 .ensures ∙ ap (packed oneIf) (in-arm scoreMeaning (a .before .before .decide .ensures) (a .enum-told2 .given .1))
 
 returns-3 : tie.Need-returns-3
 unfolding packed
-returns-3 c = let a = c .before .before in c .declined .ensures ∙ ap (packed bit) (in-arm scoreMeaning (a .before .before .decide .ensures) (a .d .given .1))
+returns-3 c = let a = c .before .before in c .declined .ensures ∙ ap (packed oneIf) (in-arm scoreMeaning (a .before .before .decide .ensures) (a .d .given .1))
 
 pub cerahupo-decide-spec : {M : Type 1} → statement M
 cerahupo-decide-spec =

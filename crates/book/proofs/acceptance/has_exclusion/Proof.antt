@@ -8,9 +8,10 @@ use native.Mathlib.Omega.{arith}
 use denote.Ref.{now}
 use lib.Dec.{eqb}
 use lib.ListN.{length, drop, getD}
-use Rattle.arith.specs.Lists.{any}
-use Rattle.arith.proofs.AnyEvery.{any-here, any-later, any-left}
-use Rattle.peal.specs.Policies.{Exclusion, noExclusion}
+use Rattle.arith.specs.Lists.{exists}
+use Rattle.arith.proofs.EveryExists.{exists-here, exists-later, exists-left}
+use Rattle.peal.specs.Policies.{Exclusion}
+use Rattle.peal.specs.Standins.{noExclusion}
 use Rattle.book.specs.Acceptance.{excludes}
 use Rattle.book.specs.Cells.{ExclusionCells, ForExclusions}
 use Rattle.book.proofs.JudgeLaws.{by-tests, by-first-test}
@@ -19,7 +20,7 @@ use Rattle.book.proofs.acceptance.has_exclusion.Tie as tie
 
 abbrev Inv-loop : tie.InvT-loop
 Inv-loop cells first second count i₀ i =
-    (i ≤ count) × ForExclusions cells (λ xs. any (excludes first second) (drop i xs) ≡ any (excludes first second) xs)
+    (i ≤ count) × ForExclusions cells (λ xs. exists (excludes first second) (drop i xs) ≡ exists (excludes first second) xs)
 
 abbrev μ-loop : tie.MeasureT-loop
 μ-loop cells first second count i₀ i = count - i
@@ -68,7 +69,7 @@ returns c =
     let r = c .before in
     let m = r .before in
     λ xs h.
-    any-here _ xs _ noExclusion (within m xs h) (by-first-test _ _ _ (m .before .first-at .ensures xs h) (m .second-at .ensures xs h) (r .are-both .ensures) (c .if1 .taken)) ∙ turn m .loop .inv .1 xs h
+    exists-here _ xs _ noExclusion (within m xs h) (by-first-test _ _ _ (m .before .first-at .ensures xs h) (m .second-at .ensures xs h) (r .are-both .ensures) (c .if1 .taken)) ∙ turn m .loop .inv .1 xs h
 
 are-both-requires-2 : tie.Need-are-both-requires-2 Inv-loop μ-loop
 are-both-requires-2 c κs = search needs
@@ -79,7 +80,7 @@ returns-2 c =
     let r = q .before .before in
     let m = r .before in
     λ xs h.
-    any-here _ xs _ noExclusion (within m xs h) (tested m xs h (r .are-both .ensures) (q .are-both2 .ensures) ∙ ap₂ _||_ (q .before .if1 .left) (c .if2 .taken)) ∙ turn m .loop .inv .1 xs h
+    exists-here _ xs _ noExclusion (within m xs h) (tested m xs h (r .are-both .ensures) (q .are-both2 .ensures) ∙ ap₂ _||_ (q .before .if1 .left) (c .if2 .taken)) ∙ turn m .loop .inv .1 xs h
 
 add-i : tie.Need-add-i Inv-loop μ-loop
 add-i c = search needs
@@ -94,13 +95,13 @@ loop-again c =
     let m = r .before in (
       omega (arith, m .before .before .loop-test .taken),
       λ xs h.
-          any-later _ xs _ noExclusion (within m xs h) (tested m xs h (r .are-both .ensures) (q .are-both2 .ensures) ∙ ap₂ _||_ (q .before .if1 .left) (c .if2 .left)) ∙ turn m .loop .inv .1 xs h,
+          exists-later _ xs _ noExclusion (within m xs h) (tested m xs h (r .are-both .ensures) (q .are-both2 .ensures) ∙ ap₂ _||_ (q .before .if1 .left) (c .if2 .left)) ∙ turn m .loop .inv .1 xs h,
     )
 
 returns-3 : tie.Need-returns-3 Inv-loop μ-loop
 returns-3 c =
     let l = c .before in
-    λ xs h. any-left _ xs (l .loop .i) (omega (arith, l .before .exclusion-count .ensures xs h, c .loop-test .left)) ∙ l .loop .inv .1 xs h
+    λ xs h. exists-left _ xs (l .loop .i) (omega (arith, l .before .exclusion-count .ensures xs h, c .loop-test .left)) ∙ l .loop .inv .1 xs h
 
 pub has-exclusion-spec : {M : Type 1} → statement M
 has-exclusion-spec =

@@ -11,7 +11,7 @@ use lib.Seq.{take-all}
 use mir.Syntax.{w32}
 use mir.Val.{SFits}
 use mir.ValLaws.{toZ-ofZ}
-use Rattle.arith.specs.Lists.{padded}
+use Rattle.arith.specs.Padding.{padded}
 use Rattle.peal.specs.Policies.{Rule, Policy}
 use Rattle.book.specs.Cells.{PolicyCells, ForPolicy, storedPolicy}
 use Rattle.book.proofs.CellLaws.{kept-rules, rule-more}

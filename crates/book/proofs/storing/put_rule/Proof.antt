@@ -44,7 +44,7 @@ small : (c : tie.After-bit) → c .before .mask-at .result + c .bit .result < 2 
 small c =
     let s = c .before .before .before .before .before in
     let fits : Fits w16 (c .before .mask-at .result) = search needs in
-    omega (arith, fits .fits, c .bit .ensures, set-below 16 (s .args .signal ∷ []) (s .pre .small, tt) (refl, tt))
+    omega (arith, fits .fits, c .bit .ensures, set-below 16 (s .args .signal ∷ []) (s .pre .small, tt) (tt, tt))
 
 count-at-requires : tie.Need-count-at-requires
 count-at-requires c κs = search needs

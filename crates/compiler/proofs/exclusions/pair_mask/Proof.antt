@@ -43,8 +43,8 @@ add-result c =
             arith,
             c .bit2 .ensures,
             b .bit .ensures,
-            set-below 16 (k .before .first-at .result ∷ []) (first-small k, tt) (refl, tt),
-            set-below 16 (k .second-at .result ∷ []) (second-small k, tt) (refl, tt),
+            set-below 16 (k .before .first-at .result ∷ []) (first-small k, tt) (tt, tt),
+            set-below 16 (k .second-at .result ∷ []) (second-small k, tt) (tt, tt),
           );
     }
 

@@ -12,7 +12,8 @@ use mir.Val.{SFits, toZ, ofZ}
 use mir.ValLaws.{toZ-ofZ}
 use Rattle.arith.proofs.Signed.{wide-fits, wide-back}
 use Rattle.signals.specs.Sets.{setOf}
-use Rattle.peal.specs.Policies.{Rule, Policy, noRule}
+use Rattle.peal.specs.Policies.{Rule, Policy}
+use Rattle.peal.specs.Standins.{noRule}
 use Rattle.peal.specs.Combining.{combinedOf}
 use Rattle.peal.specs.declared.Operator.{Operator}
 use Rattle.book.specs.Cells.{storedPolicy}

@@ -15,7 +15,7 @@ use mir.Syntax.{w64}
 use mir.Val.{SFits, toZ, ofZ}
 use mir.ValLaws.{toZ-ofZ}
 use Rattle.peal.specs.Policies.{Rule, Policy}
-use Rattle.peal.specs.Having.{has}
+use Rattle.peal.specs.Lines.{has}
 use Rattle.compiler.specs.Planning.{restOf, nextRule}
 use Rattle.compiler.specs.Searching.{Searching, CanSearch, found}
 use Rattle.compiler.proofs.SearchingLaws.{taken-few, none-coming, taken-in, next-small, tried, tried-further, nothing-found, found-none, found-few}

@@ -1,7 +1,7 @@
 -- `layout::records::kind_of`: each arm by the numbers that it is for, the last by all that the number is not.
 use mathlib.Core.Path.{ap, sym}
 use native.Mathlib.Omega.{arith}
-use Rattle.layout.specs.Records.{kindOf, lineKind, joinKind, exclusionKind, policyKind, bit}
+use Rattle.layout.specs.Records.{kindOf, lineKind, joinKind, exclusionKind, policyKind, oneIf}
 use Rattle.layout.proofs.KindLaws.{policy-number, no-number}
 use Rattle.layout.proofs.records.kind_of.Statement.{statement}
 use Rattle.layout.proofs.records.kind_of.Tie as tie
@@ -19,7 +19,7 @@ unfolding kindOf lineKind joinKind
 returns-3 c = ap kindOf (sym (c .match .keys3))
 
 returns-4 : tie.Need-returns-4
-unfolding kindOf lineKind joinKind policyKind bit exclusionKind
+unfolding kindOf lineKind joinKind policyKind oneIf exclusionKind
 returns-4 c = ap kindOf (sym (c .match .keys4))
 
 returns-5 : tie.Need-returns-5

@@ -1,20 +1,20 @@
--- For each operator the property of lines is kept among the ranked rules.
+-- For each operator the property of lines persists among the ranked rules.
 use mathlib.Core.Bool.{true}
 use mathlib.Core.List.{List, [], _∷_, _++_, append-assoc, List·Permᴰ, List·Permᴰ·append-comm, Permᴰ·middle, Permᴰ·symm, Sublistᴰ·cons, Sublistᴰ·cons-cons, Sublistᴰ·refl, Sublistᴰ·trans, Sublistᴰ·append}
 use mathlib.Core.Path.{_≡_, refl, sym, ap, _∙_}
 use native.Mathlib.Omega.{arith}
 use lib.IntN.{ℤ}
 use Rattle.arith.proofs.Sublists.{inside-length, front-inside, behind-inside, each-inside}
+use Rattle.arith.proofs.InOrder.{order-inside}
 use Rattle.arith.proofs.Reordering.{each-reordered, length-reordered}
 use Rattle.peal.specs.Policies.{Rule}
 use Rattle.peal.specs.Ranking.{ranked}
 use Rattle.peal.specs.SetsOfRules.{SetInside}
-use Rattle.peal.specs.Having.{has}
-use Rattle.peal.specs.SearchFindsMinimal.{Kept}
+use Rattle.peal.specs.Lines.{has}
+use Rattle.peal.specs.SearchFindsMinimal.{Persists}
 use Rattle.peal.specs.SearchFindsLines.{scoreFits, RulesFit}
 use Rattle.peal.specs.declared.Operator.{Operator}
 use Rattle.peal.proofs.HigherLaws.{not-higher-score}
-use Rattle.peal.proofs.OrderLaws.{order-inside}
 use Rattle.peal.proofs.RankLaws.{ranked-reordered, NotBelow, ranked-order}
 use Rattle.peal.proofs.HavingLaws.{has-reordered, has-added, has-exchanged}
 
@@ -37,8 +37,8 @@ pub has-all : (op : Operator) (t : ℤ) (X : List Rule) → RulesFit op X → ha
 has-all op t [] fit h = h
 has-all op t (r ∷ X) fit h = has-added op t r X fit (has-all op t X (fits-inside (Sublistᴰ·cons (Sublistᴰ·refl X)) fit) h)
 
-pub has-kept : (op : Operator) (t : ℤ) (rules : List Rule) → RulesFit op rules → Kept (has op t) (ranked op rules)
-has-kept op t rules fit = record { added = added; exchanged = exchanged }
+pub has-persists : (op : Operator) (t : ℤ) (rules : List Rule) → RulesFit op rules → Persists (has op t) (ranked op rules)
+has-persists op t rules fit = record { added = added; exchanged = exchanged }
   where
     ranked-fit : RulesFit op (ranked op rules)
     ranked-fit = fits-reordered (Permᴰ·symm (ranked-reordered op rules)) fit
