@@ -6,7 +6,7 @@ use mathlib.Core.Path.{_≡_}
 use lib.ListN.{length, drop}
 use Rattle.arith.specs.Options.{_>>=_}
 use Rattle.text.specs.Expressions.{expression}
-use Rattle.text.specs.Forms.{Form, oldZero, policy, rule, exclusion, condition, formOf, form}
+use Rattle.text.specs.Forms.{Form, oldZero, policy, rule, exclusion, condition, formOf}
 use Rattle.text.specs.declared.lines.Line.the-variants.{Policy, BarePolicy, Rule, Condition, Exclusion, OldZero}
 use Rattle.text.specs.declared.lines.LineRead.{LineRead}
 use Rattle.text.specs.declared.lines.LineRead.the-variants.{Good, NoForm}
@@ -37,20 +37,16 @@ StartIn line (Good (Exclusion a b)) = Unit {0}
 StartIn line (Good (Condition c t i)) = (fewestBefore ≤ i) × (i ≤ length line)
 StartIn line NoForm = Unit {0}
 
--- what is read of a line is the form that these fields have
-abbrev pub Says : List ℕ → List (List ℕ) → LineRead → Type 0
-Says line fs r = (lineMeaning line r ≡ formOf fs) × StartIn line r
+-- what was read of a line is this form
+abbrev pub Means : List ℕ → LineRead → Option Form → Type 0
+Means line r o = (lineMeaning line r ≡ o) × StartIn line r
 
--- what is read of these fields is their form, whichever line has them
-abbrev pub FieldsSay : List (List ℕ) → LineRead → Type 0
-FieldsSay fs r = (line : List ℕ) → Says line fs r
+-- the same, whichever line it was
+abbrev pub MeansAnywhere : LineRead → Option Form → Type 0
+MeansAnywhere r o = (line : List ℕ) → Means line r o
 
--- the same of three fields and a fourth, which stands from a place on: after the three and a space after each
-abbrev pub FourSay : (kind second third : List ℕ) → ℕ → LineRead → Type 0
-FourSay kind second third from r =
+-- the form of four fields was read, of which the fourth stands from a place on: after the three and a space after each
+abbrev pub FourMean : (kind second third : List ℕ) → ℕ → LineRead → Type 0
+FourMean kind second third from r =
     (line : List ℕ) → 3 + length kind + length second + length third ≤ from → from ≤ length line
-    → Says line (kind ∷ second ∷ third ∷ drop from line ∷ []) r
-
--- what is read of a line is its form
-abbrev pub LineSays : List ℕ → LineRead → Type 0
-LineSays line r = (lineMeaning line r ≡ form line) × StartIn line r
+    → Means line r (formOf (kind ∷ second ∷ third ∷ drop from line ∷ []))

@@ -1,6 +1,7 @@
 // One line of a book, by its fields.
 ghost use mathlib.Core.List.{[], _∷_};
-ghost use Rattle.text.specs.LineMeaning.{FieldsSay, FourSay, LineSays};
+ghost use Rattle.text.specs.Forms.{formOf, form};
+ghost use Rattle.text.specs.LineMeaning.{Means, MeansAnywhere, FourMean};
 use super::bytes::field_end;
 use super::bytes::is_word;
 use super::keywords::OperatorRead;
@@ -45,7 +46,7 @@ pub enum LineRead {
 
 // `o`.
 fn one_field(kind: &[u8]) -> LineRead
-    ensures { λ r. ⌜ FieldsSay (now (kind .entry) ∷ []) r ⌝ }
+    ensures { λ r. ⌜ MeansAnywhere r (formOf (now (kind .entry) ∷ [])) ⌝ }
 {
     if is_word(kind, b"o") {
         return LineRead::Good(Line::OldZero);
@@ -55,7 +56,7 @@ fn one_field(kind: &[u8]) -> LineRead
 
 // `p OP`.
 fn two_fields(kind: &[u8], second: &[u8]) -> LineRead
-    ensures { λ r. ⌜ FieldsSay (now (kind .entry) ∷ now (second .entry) ∷ []) r ⌝ }
+    ensures { λ r. ⌜ MeansAnywhere r (formOf (now (kind .entry) ∷ now (second .entry) ∷ [])) ⌝ }
 {
     if is_word(kind, b"p") {
         let OperatorRead::Is(operator) = read_operator(second) else {
@@ -68,7 +69,7 @@ fn two_fields(kind: &[u8], second: &[u8]) -> LineRead
 
 // `p OP D`, `r S V`, or `x A B`.
 fn three_fields(kind: &[u8], second: &[u8], third: &[u8]) -> LineRead
-    ensures { λ r. ⌜ FieldsSay (now (kind .entry) ∷ now (second .entry) ∷ now (third .entry) ∷ []) r ⌝ }
+    ensures { λ r. ⌜ MeansAnywhere r (formOf (now (kind .entry) ∷ now (second .entry) ∷ now (third .entry) ∷ [])) ⌝ }
 {
     if is_word(kind, b"p") {
         let OperatorRead::Is(operator) = read_operator(second) else {
@@ -105,7 +106,7 @@ fn three_fields(kind: &[u8], second: &[u8], third: &[u8]) -> LineRead
 
 // `c T < E`, or `c T >= E`, where E is what stands from `from` on: after these three fields and a space after each.
 fn four_fields(kind: &[u8], second: &[u8], third: &[u8], from: usize) -> LineRead
-    ensures { λ r. ⌜ FourSay (now (kind .entry)) (now (second .entry)) (now (third .entry)) from r ⌝ }
+    ensures { λ r. ⌜ FourMean (now (kind .entry)) (now (second .entry)) (now (third .entry)) from r ⌝ }
 {
     if is_word(kind, b"c") {
         let NumberRead::Number(threshold) = read_number(second) else {
@@ -126,7 +127,7 @@ fn four_fields(kind: &[u8], second: &[u8], third: &[u8], from: usize) -> LineRea
 // A line without its end, by how many fields it has. A condition's expression begins after six bytes at least, which
 // bounds how many codes it can have.
 pub fn read_line(line: &[u8]) -> LineRead
-    ensures { λ r. ⌜ LineSays (now (line .entry)) r ⌝ }
+    ensures { λ r. ⌜ Means (now (line .entry)) r (form (now (line .entry))) ⌝ }
 {
     let n = line.len();
     let kind_end = field_end(line, 0);

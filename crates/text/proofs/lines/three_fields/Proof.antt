@@ -8,36 +8,12 @@ use Rattle.text.specs.Spelling.{naturalMeaning, numberMeaning, operatorM
 use Rattle.text.proofs.lines.three_fields.Statement.{statement}
 use Rattle.text.proofs.lines.three_fields.Tie as tie
 
-slice-aggregate-is-word : tie.Need-slice-aggregate-is-word
-slice-aggregate-is-word c = search needs
-
-is-word-requires : tie.Need-is-word-requires
-is-word-requires c κs = search needs
-
-read-operator-requires : tie.Need-read-operator-requires
-read-operator-requires c κs = search needs
-
-enum-known-operator : tie.Need-enum-known-operator
-enum-known-operator c = search needs
-
-enum-told : tie.Need-enum-told
-enum-told c = search needs
-
 returns : tie.Need-returns
 unfolding formOf fullPolicy
 returns c =
     let read = c .before .before in
     let p = read .before in
     λ line. (rw (sym (p .before .is-word .ensures) ∙ p .if1 .taken, sym (read .read-operator .ensures) ∙ ap operatorMeaning (c .enum-told .given .1)), tt)
-
-read-number-requires : tie.Need-read-number-requires
-read-number-requires c κs = search needs
-
-enum-known-default : tie.Need-enum-known-default
-enum-known-default c = search needs
-
-enum-told-2 : tie.Need-enum-told-2
-enum-told-2 c = search needs
 
 returns-2 : tie.Need-returns-2
 unfolding formOf fullPolicy
@@ -65,21 +41,6 @@ returns-3 c =
       tt,
     )
 
-slice-aggregate-is-word-2 : tie.Need-slice-aggregate-is-word-2
-slice-aggregate-is-word-2 c = search needs
-
-is-word-requires-2 : tie.Need-is-word-requires-2
-is-word-requires-2 c κs = search needs
-
-read-natural-requires : tie.Need-read-natural-requires
-read-natural-requires c κs = search needs
-
-enum-known-signal : tie.Need-enum-known-signal
-enum-known-signal c = search needs
-
-enum-told-3 : tie.Need-enum-told-3
-enum-told-3 c = search needs
-
 returns-4 : tie.Need-returns-4
 unfolding formOf ruleLine
 returns-4 c =
@@ -90,15 +51,6 @@ returns-4 c =
       rw (sym (not-p .before .is-word .ensures) ∙ not-p .if1 .left, sym (r .before .is-word2 .ensures) ∙ r .if2 .taken, sym (read .read-natural .ensures) ∙ ap naturalMeaning (c .enum-told3 .given .1)),
       tt,
     )
-
-read-number-requires-2 : tie.Need-read-number-requires-2
-read-number-requires-2 c κs = search needs
-
-enum-known-score : tie.Need-enum-known-score
-enum-known-score c = search needs
-
-enum-told-4 : tie.Need-enum-told-4
-enum-told-4 c = search needs
 
 returns-5 : tie.Need-returns-5
 unfolding formOf ruleLine
@@ -128,21 +80,6 @@ returns-6 c =
       tt,
     )
 
-slice-aggregate-is-word-3 : tie.Need-slice-aggregate-is-word-3
-slice-aggregate-is-word-3 c = search needs
-
-is-word-requires-3 : tie.Need-is-word-requires-3
-is-word-requires-3 c κs = search needs
-
-read-natural-requires-2 : tie.Need-read-natural-requires-2
-read-natural-requires-2 c κs = search needs
-
-enum-known-first : tie.Need-enum-known-first
-enum-known-first c = search needs
-
-enum-told-5 : tie.Need-enum-told-5
-enum-told-5 c = search needs
-
 returns-7 : tie.Need-returns-7
 unfolding formOf exclusionLine
 returns-7 c =
@@ -154,15 +91,6 @@ returns-7 c =
       rw (sym (not-p .before .is-word .ensures) ∙ not-p .if1 .left, sym (not-r .before .is-word2 .ensures) ∙ not-r .if2 .left, sym (x .before .is-word3 .ensures) ∙ x .if3 .taken, sym (read .read-natural2 .ensures) ∙ ap naturalMeaning (c .enum-told5 .given .1)),
       tt,
     )
-
-read-natural-requires-3 : tie.Need-read-natural-requires-3
-read-natural-requires-3 c κs = search needs
-
-enum-known-other : tie.Need-enum-known-other
-enum-known-other c = search needs
-
-enum-told-6 : tie.Need-enum-told-6
-enum-told-6 c = search needs
 
 returns-8 : tie.Need-returns-8
 unfolding formOf exclusionLine
@@ -200,41 +128,21 @@ returns-10 c =
     let not-p = not-r .before .before .before in
     λ line. (rw (sym (not-p .before .is-word .ensures) ∙ not-p .if1 .left, sym (not-r .before .is-word2 .ensures) ∙ not-r .if2 .left, sym (c .before .is-word3 .ensures) ∙ c .if3 .left), tt)
 
+-- the other needs are found by search
 pub three-fields-spec : {M : Type 1} → statement M
 three-fields-spec =
     tie.close
     (tie.spec
-    slice-aggregate-is-word
-    is-word-requires
-    read-operator-requires
-    enum-known-operator
-    enum-told
+    (λ c. search needs) (λ c κs. search needs) (λ c κs. search needs) (λ c. search needs) (λ c. search needs)
     returns
-    read-number-requires
-    enum-known-default
-    enum-told-2
-    returns-2
+    (λ c κs. search needs) (λ c. search needs) (λ c. search needs) returns-2
     returns-3
-    slice-aggregate-is-word-2
-    is-word-requires-2
-    read-natural-requires
-    enum-known-signal
-    enum-told-3
+    (λ c. search needs) (λ c κs. search needs) (λ c κs. search needs) (λ c. search needs) (λ c. search needs)
     returns-4
-    read-number-requires-2
-    enum-known-score
-    enum-told-4
-    returns-5
+    (λ c κs. search needs) (λ c. search needs) (λ c. search needs) returns-5
     returns-6
-    slice-aggregate-is-word-3
-    is-word-requires-3
-    read-natural-requires-2
-    enum-known-first
-    enum-told-5
+    (λ c. search needs) (λ c κs. search needs) (λ c κs. search needs) (λ c. search needs) (λ c. search needs)
     returns-7
-    read-natural-requires-3
-    enum-known-other
-    enum-told-6
-    returns-8
+    (λ c κs. search needs) (λ c. search needs) (λ c. search needs) returns-8
     returns-9
     returns-10)
