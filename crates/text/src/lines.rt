@@ -1,6 +1,6 @@
 // One line of a book, by its fields.
 ghost use mathlib.Core.List.{[], _∷_};
-ghost use Rattle.text.specs.Forms.{fullPolicy, ruleLine, exclusionLine, formOf, form};
+ghost use Rattle.text.specs.Forms.{formOf, form};
 ghost use Rattle.text.specs.LineMeaning.{Means, MeansAnywhere, FourMean};
 use super::bytes::field_end;
 use super::bytes::is_word;
@@ -67,60 +67,39 @@ fn two_fields(kind: &[u8], second: &[u8]) -> LineRead
     LineRead::NoForm
 }
 
-// `p OP D`, by its second and third field.
-fn read_policy(second: &[u8], third: &[u8]) -> LineRead
-    ensures { λ r. ⌜ MeansAnywhere r (fullPolicy (now (second .entry)) (now (third .entry))) ⌝ }
-{
-    let OperatorRead::Is(operator) = read_operator(second) else {
-        return LineRead::NoForm;
-    };
-    let NumberRead::Number(default) = read_number(third) else {
-        return LineRead::NoForm;
-    };
-    LineRead::Good(Line::Policy { operator, default })
-}
-
-// `r S V`.
-fn read_rule(second: &[u8], third: &[u8]) -> LineRead
-    ensures { λ r. ⌜ MeansAnywhere r (ruleLine (now (second .entry)) (now (third .entry))) ⌝ }
-{
-    let NaturalRead::Natural(signal) = read_natural(second) else {
-        return LineRead::NoForm;
-    };
-    let NumberRead::Number(score) = read_number(third) else {
-        return LineRead::NoForm;
-    };
-    LineRead::Good(Line::Rule { signal, score })
-}
-
-// `x A B`.
-fn read_exclusion(second: &[u8], third: &[u8]) -> LineRead
-    ensures { λ r. ⌜ MeansAnywhere r (exclusionLine (now (second .entry)) (now (third .entry))) ⌝ }
-{
-    let NaturalRead::Natural(first) = read_natural(second) else {
-        return LineRead::NoForm;
-    };
-    let NaturalRead::Natural(other) = read_natural(third) else {
-        return LineRead::NoForm;
-    };
-    LineRead::Good(Line::Exclusion {
-        first: first,
-        second: other,
-    })
-}
-
 // `p OP D`, `r S V`, or `x A B`.
 fn three_fields(kind: &[u8], second: &[u8], third: &[u8]) -> LineRead
     ensures { λ r. ⌜ MeansAnywhere r (formOf (now (kind .entry) ∷ now (second .entry) ∷ now (third .entry) ∷ [])) ⌝ }
 {
     if is_word(kind, b"p") {
-        return read_policy(second, third);
+        let OperatorRead::Is(operator) = read_operator(second) else {
+            return LineRead::NoForm;
+        };
+        let NumberRead::Number(default) = read_number(third) else {
+            return LineRead::NoForm;
+        };
+        return LineRead::Good(Line::Policy { operator, default });
     }
     if is_word(kind, b"r") {
-        return read_rule(second, third);
+        let NaturalRead::Natural(signal) = read_natural(second) else {
+            return LineRead::NoForm;
+        };
+        let NumberRead::Number(score) = read_number(third) else {
+            return LineRead::NoForm;
+        };
+        return LineRead::Good(Line::Rule { signal, score });
     }
     if is_word(kind, b"x") {
-        return read_exclusion(second, third);
+        let NaturalRead::Natural(first) = read_natural(second) else {
+            return LineRead::NoForm;
+        };
+        let NaturalRead::Natural(other) = read_natural(third) else {
+            return LineRead::NoForm;
+        };
+        return LineRead::Good(Line::Exclusion {
+            first: first,
+            second: other,
+        });
     }
     LineRead::NoForm
 }

@@ -253,7 +253,7 @@ module _ (t : ℕ) where
       let l = right-left r in
       pair-both _ _ _ _ _ (is-open (left-open l)) (left l) (is-comma (right-comma r)) (right r) (left-start l .pre .1 .within) (sym (c .before .has-byte3 .ensures) ∙ not-false _ (c .if3 .left))
 
--- the other needs are found
+-- the other needs are found by search
 pub +read-leading+read-pair-spec : {M : Type 1} → statement M
 +read-leading+read-pair-spec =
     close μ-read-leading μ-read-pair

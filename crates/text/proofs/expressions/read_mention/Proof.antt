@@ -24,28 +24,10 @@ number : (c : tie.After-policy)
     → natural (take (digits c .digits-end .result - start c .args .from) (drop (start c .args .from) (now (start c .args .line)))) ≡ some (c .policy .given .0 .0)
 number c = sym (c .before .before .read-natural .ensures) ∙ ap naturalMeaning (c .policy .given .1)
 
-digits-end-requires : tie.Need-digits-end-requires
-digits-end-requires c κs = search needs
-
-sub-read-natural : tie.Need-sub-read-natural
-sub-read-natural c = search needs
-
-part-read-natural-start : tie.Need-part-read-natural-start
-part-read-natural-start c = search needs
-
 part-read-natural-end : tie.Need-part-read-natural-end
 part-read-natural-end c =
     let a = c .before .before .args in
     omega (arith, c .digits-end .ensures, digits-within (drop (a .from) (now (a .line))), length-drop (a .from) (now (a .line)))
-
-read-natural-requires : tie.Need-read-natural-requires
-read-natural-requires c κs = search needs
-
-enum-known-policy : tie.Need-enum-known-policy
-enum-known-policy c = search needs
-
-enum-told : tie.Need-enum-told
-enum-told c = search needs
 
 returns : tie.Need-returns
 returns c =
@@ -55,26 +37,17 @@ returns c =
 add-put-code : tie.Need-add-put-code
 add-put-code c = omega (arith, natural-small _ _ (number (c .before .before)))
 
-put-code-requires : tie.Need-put-code-requires
-put-code-requires c κs = search needs
-
 returns-2 : tie.Need-returns-2
 returns-2 c =
     let p = c .before .before .before in
     mention-put _ _ _ _ _ (digits p .digits-end .ensures) _ (number p) _ _ (start p .pre .0) (start p .pre .1) (c .put-code .ensures)
 
+-- the other needs are found by search
 pub read-mention-spec : {M : Type 1} → statement M
 read-mention-spec =
     tie.close
     (tie.spec
-    digits-end-requires
-    sub-read-natural
-    part-read-natural-start
-    part-read-natural-end
-    read-natural-requires
-    enum-known-policy
-    enum-told
-    returns
+    (λ c κs. search needs) (λ c. search needs) (λ c. search needs) part-read-natural-end
+    (λ c κs. search needs) (λ c. search needs) (λ c. search needs) returns
     add-put-code
-    put-code-requires
-    returns-2)
+    (λ c κs. search needs) returns-2)

@@ -5,30 +5,6 @@ use borrow.Author.Needs.{needs}
 use Rattle.text.proofs.keywords.read_operator.Statement.{statement}
 use Rattle.text.proofs.keywords.read_operator.Tie as tie
 
-slice-aggregate-is-word : tie.Need-slice-aggregate-is-word
-slice-aggregate-is-word c = search needs
-
-is-word-requires : tie.Need-is-word-requires
-is-word-requires c κs = search needs
-
-slice-aggregate-is-word-2 : tie.Need-slice-aggregate-is-word-2
-slice-aggregate-is-word-2 c = search needs
-
-is-word-requires-2 : tie.Need-is-word-requires-2
-is-word-requires-2 c κs = search needs
-
-slice-aggregate-is-word-3 : tie.Need-slice-aggregate-is-word-3
-slice-aggregate-is-word-3 c = search needs
-
-is-word-requires-3 : tie.Need-is-word-requires-3
-is-word-requires-3 c κs = search needs
-
-slice-aggregate-is-word-4 : tie.Need-slice-aggregate-is-word-4
-slice-aggregate-is-word-4 c = search needs
-
-is-word-requires-4 : tie.Need-is-word-requires-4
-is-word-requires-4 c κs = search needs
-
 returns : tie.Need-returns
 unfolding operator operatorWord
 returns c = rw (sym (c .before .is-word .ensures) ∙ c .if1 .taken)
@@ -62,19 +38,13 @@ returns-5 c =
     let a = b .before .before .before in
     rw (sym (a .before .is-word .ensures) ∙ a .if1 .left, sym (b .before .is-word2 .ensures) ∙ b .if2 .left, sym (d .before .is-word3 .ensures) ∙ d .if3 .left, sym (c .before .is-word4 .ensures) ∙ c .if4 .left)
 
+-- the other needs are found by search
 pub read-operator-spec : {M : Type 1} → statement M
 read-operator-spec =
     tie.close
     (tie.spec
-    slice-aggregate-is-word
-    is-word-requires
-    slice-aggregate-is-word-2
-    is-word-requires-2
-    slice-aggregate-is-word-3
-    is-word-requires-3
-    slice-aggregate-is-word-4
-    is-word-requires-4
-    returns
+    (λ c. search needs) (λ c κs. search needs) (λ c. search needs) (λ c κs. search needs) (λ c. search needs)
+    (λ c κs. search needs) (λ c. search needs) (λ c κs. search needs) returns
     returns-2
     returns-3
     returns-4

@@ -5,18 +5,6 @@ use borrow.Author.Needs.{needs}
 use Rattle.text.proofs.keywords.read_sense.Statement.{statement}
 use Rattle.text.proofs.keywords.read_sense.Tie as tie
 
-slice-aggregate-is-word : tie.Need-slice-aggregate-is-word
-slice-aggregate-is-word c = search needs
-
-is-word-requires : tie.Need-is-word-requires
-is-word-requires c κs = search needs
-
-slice-aggregate-is-word-2 : tie.Need-slice-aggregate-is-word-2
-slice-aggregate-is-word-2 c = search needs
-
-is-word-requires-2 : tie.Need-is-word-requires-2
-is-word-requires-2 c κs = search needs
-
 returns : tie.Need-returns
 unfolding sense senseWord
 returns c = rw (sym (c .before .is-word .ensures) ∙ c .if1 .taken)
@@ -33,14 +21,11 @@ returns-3 c =
     let a = c .before .before .before in
     rw (sym (a .before .is-word .ensures) ∙ a .if1 .left, sym (c .before .is-word2 .ensures) ∙ c .if2 .left)
 
+-- the other needs are found by search
 pub read-sense-spec : {M : Type 1} → statement M
 read-sense-spec =
     tie.close
     (tie.spec
-    slice-aggregate-is-word
-    is-word-requires
-    slice-aggregate-is-word-2
-    is-word-requires-2
-    returns
+    (λ c. search needs) (λ c κs. search needs) (λ c. search needs) (λ c κs. search needs) returns
     returns-2
     returns-3)

@@ -13,36 +13,12 @@ use Rattle.text.proofs.FieldLaws.{number-length, sense-length}
 use Rattle.text.proofs.lines.four_fields.Statement.{statement}
 use Rattle.text.proofs.lines.four_fields.Tie as tie
 
-slice-aggregate-is-word : tie.Need-slice-aggregate-is-word
-slice-aggregate-is-word c = search needs
-
-is-word-requires : tie.Need-is-word-requires
-is-word-requires c κs = search needs
-
-read-number-requires : tie.Need-read-number-requires
-read-number-requires c κs = search needs
-
-enum-known-threshold : tie.Need-enum-known-threshold
-enum-known-threshold c = search needs
-
-enum-told : tie.Need-enum-told
-enum-told c = search needs
-
 returns : tie.Need-returns
 unfolding formOf conditionLine
 returns c =
     let read = c .before .before in
     let k = read .before in
     λ line h l. (rw (sym (k .before .is-word .ensures) ∙ k .if1 .taken, sym (read .read-number .ensures) ∙ ap numberMeaning (c .enum-told .given .1)), tt)
-
-read-sense-requires : tie.Need-read-sense-requires
-read-sense-requires c κs = search needs
-
-enum-known-sense : tie.Need-enum-known-sense
-enum-known-sense c = search needs
-
-enum-told-2 : tie.Need-enum-told-2
-enum-told-2 c = search needs
 
 returns-2 : tie.Need-returns-2
 unfolding formOf conditionLine
@@ -78,19 +54,13 @@ returns-4 : tie.Need-returns-4
 unfolding formOf
 returns-4 c = λ line h l. (rw (sym (c .before .is-word .ensures) ∙ c .if1 .left), tt)
 
+-- the other needs are found by search
 pub four-fields-spec : {M : Type 1} → statement M
 four-fields-spec =
     tie.close
     (tie.spec
-    slice-aggregate-is-word
-    is-word-requires
-    read-number-requires
-    enum-known-threshold
-    enum-told
+    (λ c. search needs) (λ c κs. search needs) (λ c κs. search needs) (λ c. search needs) (λ c. search needs)
     returns
-    read-sense-requires
-    enum-known-sense
-    enum-told-2
-    returns-2
+    (λ c κs. search needs) (λ c. search needs) (λ c. search needs) returns-2
     returns-3
     returns-4)

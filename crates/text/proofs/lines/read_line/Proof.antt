@@ -37,12 +37,6 @@ third c = record { within = cut-on _ _ _ (second (else-2 c)); end = c .before .b
 fourth : (c : tie.Else4) → Cut (now (start (else-1 (else-2 (else-3 c))) .args .line)) (else-3 c .before .before .field-end3 .result + 1) (c .before .field-end4 .result)
 fourth c = record { within = cut-on _ _ _ (third (else-3 c)); end = c .before .field-end4 .ensures; more = c .if4 .left }
 
-field-end-requires : tie.Need-field-end-requires
-field-end-requires c κs = search needs
-
-one-field-requires : tie.Need-one-field-requires
-one-field-requires c κs = search needs
-
 returns : tie.Need-returns
 unfolding form
 returns c =
@@ -60,17 +54,8 @@ add-second-from c = omega (arith, cut-on _ _ _ (first (c .before)))
 field-end-requires-2 : tie.Need-field-end-requires-2
 field-end-requires-2 c κs = cut-on _ _ _ (first (c .before))
 
-sub-second : tie.Need-sub-second
-sub-second c = search needs
-
-part-second-start : tie.Need-part-second-start
-part-second-start c = search needs
-
 part-second-end : tie.Need-part-second-end
 part-second-end c = end-within space _ _ _ (cut-on _ _ _ (first (c .before .before))) (c .field-end2 .ensures)
-
-two-fields-requires : tie.Need-two-fields-requires
-two-fields-requires c κs = search needs
 
 returns-2 : tie.Need-returns-2
 unfolding form
@@ -87,17 +72,8 @@ add-third-from c = omega (arith, cut-on _ _ _ (second c))
 field-end-requires-3 : tie.Need-field-end-requires-3
 field-end-requires-3 c κs = cut-on _ _ _ (second c)
 
-sub-third : tie.Need-sub-third
-sub-third c = search needs
-
-part-third-start : tie.Need-part-third-start
-part-third-start c = search needs
-
 part-third-end : tie.Need-part-third-end
 part-third-end c = end-within space _ _ _ (cut-on _ _ _ (second (c .before))) (c .field-end3 .ensures)
-
-three-fields-requires : tie.Need-three-fields-requires
-three-fields-requires c κs = search needs
 
 returns-3 : tie.Need-returns-3
 unfolding form
@@ -114,9 +90,6 @@ add-from c = omega (arith, cut-on _ _ _ (third c))
 
 field-end-requires-4 : tie.Need-field-end-requires-4
 field-end-requires-4 c κs = cut-on _ _ _ (third c)
-
-four-fields-requires : tie.Need-four-fields-requires
-four-fields-requires c κs = search needs
 
 returns-4 : tie.Need-returns-4
 unfolding form
@@ -137,30 +110,22 @@ returns-5 c =
     let fs = five-fields _ _ _ _ _ (first (else-1 (else-2 e))) (second (else-2 e)) (third e) (fourth c) in
     (rw (fs .2), tt)
 
+-- the other needs are found by search
 pub read-line-spec : {M : Type 1} → statement M
 read-line-spec =
     tie.close
     (tie.spec
-    field-end-requires
-    one-field-requires
-    returns
+    (λ c κs. search needs) (λ c κs. search needs) returns
     slice-aggregate-kind
     add-second-from
     field-end-requires-2
-    sub-second
-    part-second-start
-    part-second-end
-    two-fields-requires
-    returns-2
+    (λ c. search needs) (λ c. search needs) part-second-end
+    (λ c κs. search needs) returns-2
     add-third-from
     field-end-requires-3
-    sub-third
-    part-third-start
-    part-third-end
-    three-fields-requires
-    returns-3
+    (λ c. search needs) (λ c. search needs) part-third-end
+    (λ c κs. search needs) returns-3
     add-from
     field-end-requires-4
-    four-fields-requires
-    returns-4
+    (λ c κs. search needs) returns-4
     returns-5)

@@ -1,81 +1,148 @@
 -- `text::lines::three_fields`: the tests are those of the definition, in its order.
-use mathlib.Core.Path.{sym, _∙_}
+use mathlib.Core.Path.{_≡_, sym, ap, _∙_}
+use mir.Syntax.{w32}
+use mir.Val.{toZ, ofZ}
 use borrow.Author.Needs.{needs}
-use Rattle.text.specs.Forms.{formOf}
+use Rattle.text.specs.Forms.{fullPolicy, ruleLine, exclusionLine, formOf}
+use Rattle.text.specs.Spelling.{naturalMeaning, numberMeaning, operatorMeaning}
 use Rattle.text.proofs.lines.three_fields.Statement.{statement}
 use Rattle.text.proofs.lines.three_fields.Tie as tie
 
-slice-aggregate-is-word : tie.Need-slice-aggregate-is-word
-slice-aggregate-is-word c = search needs
-
-is-word-requires : tie.Need-is-word-requires
-is-word-requires c κs = search needs
-
-read-policy-requires : tie.Need-read-policy-requires
-read-policy-requires c κs = search needs
-
 returns : tie.Need-returns
-unfolding formOf
+unfolding formOf fullPolicy
 returns c =
-    let p = c .before in
-    λ line. rw (sym (p .before .is-word .ensures) ∙ p .if1 .taken) (c .read-policy .ensures line)
-
-slice-aggregate-is-word-2 : tie.Need-slice-aggregate-is-word-2
-slice-aggregate-is-word-2 c = search needs
-
-is-word-requires-2 : tie.Need-is-word-requires-2
-is-word-requires-2 c κs = search needs
-
-read-rule-requires : tie.Need-read-rule-requires
-read-rule-requires c κs = search needs
+    let read = c .before .before in
+    let p = read .before in
+    λ line. (rw (sym (p .before .is-word .ensures) ∙ p .if1 .taken, sym (read .read-operator .ensures) ∙ ap operatorMeaning (c .enum-told .given .1)), tt)
 
 returns-2 : tie.Need-returns-2
-unfolding formOf
+unfolding formOf fullPolicy
 returns-2 c =
-    let r = c .before in
-    let not-p = r .before .before .before in
-    λ line. rw (sym (not-p .before .is-word .ensures) ∙ not-p .if1 .left, sym (r .before .is-word2 .ensures) ∙ r .if2 .taken) (c .read-rule .ensures line)
-
-slice-aggregate-is-word-3 : tie.Need-slice-aggregate-is-word-3
-slice-aggregate-is-word-3 c = search needs
-
-is-word-requires-3 : tie.Need-is-word-requires-3
-is-word-requires-3 c κs = search needs
-
-read-exclusion-requires : tie.Need-read-exclusion-requires
-read-exclusion-requires c κs = search needs
+    let read-2 = c .before .before in
+    let found = read-2 .before .before in
+    let read = found .before .before in
+    let p = read .before in
+    λ line. (
+      rw (sym (p .before .is-word .ensures) ∙ p .if1 .taken, sym (read .read-operator .ensures) ∙ ap operatorMeaning (found .operator .given .1), sym (read-2 .read-number .ensures) ∙ ap numberMeaning (c .enum-told2 .given .1)),
+      tt,
+    )
 
 returns-3 : tie.Need-returns-3
-unfolding formOf
+unfolding formOf fullPolicy
 returns-3 c =
-    let x = c .before in
-    let not-r = x .before .before .before in
-    let not-p = not-r .before .before .before in
-    λ line.
-    rw (sym (not-p .before .is-word .ensures) ∙ not-p .if1 .left, sym (not-r .before .is-word2 .ensures) ∙ not-r .if2 .left, sym (x .before .is-word3 .ensures) ∙ x .if3 .taken)
-    (c .read-exclusion .ensures line)
+    let found-2 = c .before in
+    let read-2 = found-2 .before .before in
+    let found = read-2 .before .before in
+    let read = found .before .before in
+    let p = read .before in
+    let z : toZ w32 (ofZ w32 (found-2 .default .given .0 .0)) ≡ found-2 .default .given .0 .0 = search needs in
+    λ line. (
+      rw (z, sym (p .before .is-word .ensures) ∙ p .if1 .taken, sym (read .read-operator .ensures) ∙ ap operatorMeaning (found .operator .given .1), sym (read-2 .read-number .ensures) ∙ ap numberMeaning (found-2 .default .given .1)),
+      tt,
+    )
 
 returns-4 : tie.Need-returns-4
-unfolding formOf
+unfolding formOf ruleLine
 returns-4 c =
+    let read = c .before .before in
+    let r = read .before in
+    let not-p = r .before .before .before in
+    λ line. (
+      rw (sym (not-p .before .is-word .ensures) ∙ not-p .if1 .left, sym (r .before .is-word2 .ensures) ∙ r .if2 .taken, sym (read .read-natural .ensures) ∙ ap naturalMeaning (c .enum-told3 .given .1)),
+      tt,
+    )
+
+returns-5 : tie.Need-returns-5
+unfolding formOf ruleLine
+returns-5 c =
+    let read-2 = c .before .before in
+    let found = read-2 .before .before in
+    let read = found .before .before in
+    let r = read .before in
+    let not-p = r .before .before .before in
+    λ line. (
+      rw (sym (not-p .before .is-word .ensures) ∙ not-p .if1 .left, sym (r .before .is-word2 .ensures) ∙ r .if2 .taken, sym (read .read-natural .ensures) ∙ ap naturalMeaning (found .signal .given .1), sym (read-2 .read-number2 .ensures) ∙ ap numberMeaning (c .enum-told4 .given .1)),
+      tt,
+    )
+
+returns-6 : tie.Need-returns-6
+unfolding formOf ruleLine
+returns-6 c =
+    let found-2 = c .before in
+    let read-2 = found-2 .before .before in
+    let found = read-2 .before .before in
+    let read = found .before .before in
+    let r = read .before in
+    let not-p = r .before .before .before in
+    let z : toZ w32 (ofZ w32 (found-2 .score .given .0 .0)) ≡ found-2 .score .given .0 .0 = search needs in
+    λ line. (
+      rw (z, sym (not-p .before .is-word .ensures) ∙ not-p .if1 .left, sym (r .before .is-word2 .ensures) ∙ r .if2 .taken, sym (read .read-natural .ensures) ∙ ap naturalMeaning (found .signal .given .1), sym (read-2 .read-number2 .ensures) ∙ ap numberMeaning (found-2 .score .given .1)),
+      tt,
+    )
+
+returns-7 : tie.Need-returns-7
+unfolding formOf exclusionLine
+returns-7 c =
+    let read = c .before .before in
+    let x = read .before in
+    let not-r = x .before .before .before in
+    let not-p = not-r .before .before .before in
+    λ line. (
+      rw (sym (not-p .before .is-word .ensures) ∙ not-p .if1 .left, sym (not-r .before .is-word2 .ensures) ∙ not-r .if2 .left, sym (x .before .is-word3 .ensures) ∙ x .if3 .taken, sym (read .read-natural2 .ensures) ∙ ap naturalMeaning (c .enum-told5 .given .1)),
+      tt,
+    )
+
+returns-8 : tie.Need-returns-8
+unfolding formOf exclusionLine
+returns-8 c =
+    let read-2 = c .before .before in
+    let found = read-2 .before .before in
+    let read = found .before .before in
+    let x = read .before in
+    let not-r = x .before .before .before in
+    let not-p = not-r .before .before .before in
+    λ line. (
+      rw (sym (not-p .before .is-word .ensures) ∙ not-p .if1 .left, sym (not-r .before .is-word2 .ensures) ∙ not-r .if2 .left, sym (x .before .is-word3 .ensures) ∙ x .if3 .taken, sym (read .read-natural2 .ensures) ∙ ap naturalMeaning (found .first .given .1), sym (read-2 .read-natural3 .ensures) ∙ ap naturalMeaning (c .enum-told6 .given .1)),
+      tt,
+    )
+
+returns-9 : tie.Need-returns-9
+unfolding formOf exclusionLine
+returns-9 c =
+    let found-2 = c .before in
+    let read-2 = found-2 .before .before in
+    let found = read-2 .before .before in
+    let read = found .before .before in
+    let x = read .before in
+    let not-r = x .before .before .before in
+    let not-p = not-r .before .before .before in
+    λ line. (
+      rw (sym (not-p .before .is-word .ensures) ∙ not-p .if1 .left, sym (not-r .before .is-word2 .ensures) ∙ not-r .if2 .left, sym (x .before .is-word3 .ensures) ∙ x .if3 .taken, sym (read .read-natural2 .ensures) ∙ ap naturalMeaning (found .first .given .1), sym (read-2 .read-natural3 .ensures) ∙ ap naturalMeaning (found-2 .other .given .1)),
+      tt,
+    )
+
+returns-10 : tie.Need-returns-10
+unfolding formOf
+returns-10 c =
     let not-r = c .before .before .before in
     let not-p = not-r .before .before .before in
     λ line. (rw (sym (not-p .before .is-word .ensures) ∙ not-p .if1 .left, sym (not-r .before .is-word2 .ensures) ∙ not-r .if2 .left, sym (c .before .is-word3 .ensures) ∙ c .if3 .left), tt)
 
+-- the other needs are found by search
 pub three-fields-spec : {M : Type 1} → statement M
 three-fields-spec =
     tie.close
     (tie.spec
-    slice-aggregate-is-word
-    is-word-requires
-    read-policy-requires
+    (λ c. search needs) (λ c κs. search needs) (λ c κs. search needs) (λ c. search needs) (λ c. search needs)
     returns
-    slice-aggregate-is-word-2
-    is-word-requires-2
-    read-rule-requires
-    returns-2
-    slice-aggregate-is-word-3
-    is-word-requires-3
-    read-exclusion-requires
+    (λ c κs. search needs) (λ c. search needs) (λ c. search needs) returns-2
     returns-3
-    returns-4)
+    (λ c. search needs) (λ c κs. search needs) (λ c κs. search needs) (λ c. search needs) (λ c. search needs)
+    returns-4
+    (λ c κs. search needs) (λ c. search needs) (λ c. search needs) returns-5
+    returns-6
+    (λ c. search needs) (λ c κs. search needs) (λ c κs. search needs) (λ c. search needs) (λ c. search needs)
+    returns-7
+    (λ c κs. search needs) (λ c. search needs) (λ c. search needs) returns-8
+    returns-9
+    returns-10)

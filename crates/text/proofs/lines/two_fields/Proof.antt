@@ -6,21 +6,6 @@ use Rattle.text.specs.Spelling.{operatorMeaning}
 use Rattle.text.proofs.lines.two_fields.Statement.{statement}
 use Rattle.text.proofs.lines.two_fields.Tie as tie
 
-slice-aggregate-is-word : tie.Need-slice-aggregate-is-word
-slice-aggregate-is-word c = search needs
-
-is-word-requires : tie.Need-is-word-requires
-is-word-requires c κs = search needs
-
-read-operator-requires : tie.Need-read-operator-requires
-read-operator-requires c κs = search needs
-
-enum-known-operator : tie.Need-enum-known-operator
-enum-known-operator c = search needs
-
-enum-told : tie.Need-enum-told
-enum-told c = search needs
-
 returns : tie.Need-returns
 unfolding formOf barePolicy
 returns c =
@@ -40,15 +25,12 @@ returns-3 : tie.Need-returns-3
 unfolding formOf
 returns-3 c = λ line. (rw (sym (c .before .is-word .ensures) ∙ c .if1 .left), tt)
 
+-- the other needs are found by search
 pub two-fields-spec : {M : Type 1} → statement M
 two-fields-spec =
     tie.close
     (tie.spec
-    slice-aggregate-is-word
-    is-word-requires
-    read-operator-requires
-    enum-known-operator
-    enum-told
+    (λ c. search needs) (λ c κs. search needs) (λ c κs. search needs) (λ c. search needs) (λ c. search needs)
     returns
     returns-2
     returns-3)

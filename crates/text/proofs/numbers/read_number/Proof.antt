@@ -36,18 +36,6 @@ size c = sym (c .before .before .read-natural2 .ensures) ∙ ap naturalMeaning (
 returns : tie.Need-returns
 returns c = sym (empty-no-number _ (c .if1 .taken))
 
-shared-slice-read-if2 : tie.Need-shared-slice-read-if2
-shared-slice-read-if2 c = search needs
-
-read-natural-requires : tie.Need-read-natural-requires
-read-natural-requires c κs = search needs
-
-enum-known-value : tie.Need-enum-known-value
-enum-known-value c = search needs
-
-enum-told : tie.Need-enum-told
-enum-told c = search needs
-
 returns-2 : tie.Need-returns-2
 unfolding positive
 returns-2 c =
@@ -62,24 +50,6 @@ unfolding positive
 returns-3 c =
     let e = value (c .before) in
     ap some (pos-read _ (natural-small _ _ e)) ∙ sym (plain (c .before .before .before .before) ∙ ap positive e)
-
-sub-read-natural : tie.Need-sub-read-natural
-sub-read-natural c = search needs
-
-part-read-natural-start : tie.Need-part-read-natural-start
-part-read-natural-start c = search needs
-
-part-read-natural-end : tie.Need-part-read-natural-end
-part-read-natural-end c = search needs
-
-read-natural-requires-2 : tie.Need-read-natural-requires-2
-read-natural-requires-2 c κs = search needs
-
-enum-known-size : tie.Need-enum-known-size
-enum-known-size c = search needs
-
-enum-told-2 : tie.Need-enum-told-2
-enum-told-2 c = search needs
 
 returns-4 : tie.Need-returns-4
 unfolding negative
@@ -104,25 +74,17 @@ returns-6 c =
     let s = c .before .before in
     ap some (minus-read _ (natural-small _ _ (size s))) ∙ sym (minus (s .before .before .before .before) ∙ ap negative (size s) ∙ minus-some _ (c .if3 .left))
 
+-- the other needs are found by search
 pub read-number-spec : {M : Type 1} → statement M
 read-number-spec =
     tie.close
     (tie.spec
     returns
-    shared-slice-read-if2
-    read-natural-requires
-    enum-known-value
-    enum-told
-    returns-2
+    (λ c. search needs) (λ c κs. search needs) (λ c. search needs) (λ c. search needs) returns-2
     cast-t9
     returns-3
-    sub-read-natural
-    part-read-natural-start
-    part-read-natural-end
-    read-natural-requires-2
-    enum-known-size
-    enum-told-2
-    returns-4
+    (λ c. search needs) (λ c. search needs) (λ c. search needs) (λ c κs. search needs) (λ c. search needs)
+    (λ c. search needs) returns-4
     returns-5
     cast-t14
     sub-t15
