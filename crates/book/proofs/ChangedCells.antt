@@ -14,7 +14,7 @@ use Rattle.peal.specs.Policies.{Policy, Condition, Book, policyAt}
 use Rattle.text.specs.Codes.{codesOf}
 use Rattle.text.proofs.MentionLaws.{codes-count}
 use Rattle.book.specs.Books.{conditionAt}
-use Rattle.book.specs.Cells.{cell, policyCells, policyFrom, operatorCell, defaultCell, countCell, maskCell, signalCell, scoreCell, conditionCells, conditionsFrom, conditionFrom, senseCell, thresholdCell, lengthCell, codeCell, exclusionCountCell, firstCell, secondCell, PolicyCells, ExclusionCells, ConditionCells, BookCells}
+use Rattle.book.specs.Cells.{cell, policyCells, policyFrom, operatorCell, defaultCell, countCell, maskCell, signalCell, scoreCell, conditionCells, conditionsFrom, conditionFrom, senseCell, thresholdCell, lengthCell, codeCell, exclusionCountCell, firstCell, secondCell, PolicyCells, ExclusionCells, ConditionCells, BookCells, mostRules, mostCodes}
 use Rattle.book.specs.Ranges.{BookInRange, ConditionInRange}
 use Rattle.book.proofs.ConditionLaws.{each-condition}
 use Rattle.book.proofs.RangeLaws.{rules-at-most, policy-in-range}
@@ -63,7 +63,7 @@ abbrev Same : (from to : ℕ) (before after : List ℤ) → Type 0
 Same from to before after = (j : ℕ) → from ≤ j → j < to → cell after j ≡ cell before j
 
 module _ {before after : List ℤ} where
-  policy-same : (k : ℕ) (p : Policy) → Same (policyFrom k) (policyFrom k + policyCells) before after → length (p .rules) ≤ 16 → PolicyCells before k p → PolicyCells after k p
+  policy-same : (k : ℕ) (p : Policy) → Same (policyFrom k) (policyFrom k + policyCells) before after → length (p .rules) ≤ mostRules → PolicyCells before k p → PolicyCells after k p
   policy-same k p s few h =
       record {
         operator = s (operatorCell k) (omega arith) (omega arith) ∙ h .operator;
@@ -74,7 +74,7 @@ module _ {before after : List ℤ} where
         scores = λ i l. s (scoreCell k i) (omega arith) (omega arith) ∙ h .scores i l;
       }
 
-  condition-same : (n : ℕ) (c : Condition) → Same (conditionFrom n) (conditionFrom n + conditionCells) before after → length (codesOf (c .expression)) ≤ 31
+  condition-same : (n : ℕ) (c : Condition) → Same (conditionFrom n) (conditionFrom n + conditionCells) before after → length (codesOf (c .expression)) ≤ mostCodes
       → ConditionCells before n c → ConditionCells after n c
   condition-same n c s few h =
       record {
@@ -85,7 +85,7 @@ module _ {before after : List ℤ} where
       }
 
 module _ {b : Book} (range : BookInRange b) where
-  few-codes : (n : ℕ) (c : Condition) → conditionAt (b .conditions) n ≡ result c → length (codesOf (c .expression)) ≤ 31
+  few-codes : (n : ℕ) (c : Condition) → conditionAt (b .conditions) n ≡ result c → length (codesOf (c .expression)) ≤ mostCodes
   few-codes n c h =
       omega (arith, codes-count (c .expression), each-condition (ConditionInRange (length (b .policies))) (b .conditions) n c (range .conditions) h .mentionsRoom)
 

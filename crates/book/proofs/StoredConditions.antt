@@ -14,7 +14,7 @@ use Rattle.peal.specs.Policies.{Expression, Condition}
 use Rattle.text.specs.Codes.{codesOf, HoldsCodes}
 use Rattle.book.specs.Acceptance.{withCondition, mentionsBelow}
 use Rattle.book.specs.Books.{conditionAt}
-use Rattle.book.specs.Cells.{senseCode, conditionCells, conditionsFrom, conditionFrom, senseCell, thresholdCell, lengthCell, codesFrom, codeCell, cellCount, ConditionCells}
+use Rattle.book.specs.Cells.{senseCode, conditionCells, conditionsFrom, conditionFrom, senseCell, thresholdCell, lengthCell, codesFrom, codeCell, cellCount, ConditionCells, mostConditions, mostCodes}
 use Rattle.book.specs.Storing.{Stored}
 use Rattle.book.proofs.CellLaws.{map-take-more}
 use Rattle.book.proofs.ConditionLaws.{condition-within, condition-more}
@@ -50,12 +50,12 @@ module _ (before : List ℤ) (n : ℕ) (sense threshold length-is : ℤ) where
   abbrev with-three : List ℤ
   with-three = stored before (n * conditionCells) conditionsFrom (sense ∷ threshold ∷ length-is ∷ [])
 
-  module _ (room : n < 8) (long : length before ≡ cellCount) where
+  module _ (room : n < mostConditions) (long : length before ≡ cellCount) where
     three : Wrote (senseCell n) (sense ∷ threshold ∷ length-is ∷ []) before with-three
     three = wrote-from (n * conditionCells) conditionsFrom (sense ∷ threshold ∷ length-is ∷ []) before (omega arith)
 
     -- and its codes
-    module _ (after : List ℤ) (codes : List ℕ) (count i : ℕ) (c : Condition) (few : count ≤ 31) (held : HoldsCodes codes count (c .expression)) (all : i ≡ count)
+    module _ (after : List ℤ) (codes : List ℕ) (count i : ℕ) (c : Condition) (few : count ≤ mostCodes) (held : HoldsCodes codes count (c .expression)) (all : i ≡ count)
         (after-is : after ≡ sets with-three (codesFrom n) (map pos (take i codes))) where
       rest : Wrote (codesFrom n) (map pos (codesOf (c .expression))) with-three after
       rest =

@@ -10,7 +10,7 @@ use Rattle.answers.proofs.Results.{no-refusal}
 use Rattle.peal.specs.Policies.{Exclusion, Book}
 use Rattle.book.specs.Acceptance.{emptyBook, withExclusion}
 use Rattle.book.specs.Books.{conditionAt}
-use Rattle.book.specs.Cells.{cell, exclusionCountCell, firstCell, secondCell, cellCount, ExclusionCells, BookCells}
+use Rattle.book.specs.Cells.{cell, exclusionCountCell, firstCell, secondCell, cellCount, ExclusionCells, BookCells, mostExclusions}
 use Rattle.book.specs.Ranges.{BookInRange}
 use Rattle.book.proofs.ConditionLaws.{condition-within}
 use Rattle.book.proofs.ChangedCells.{Wrote, wrote, Changed, changed, changed-then, policy-before, condition-before, one-more}
@@ -43,7 +43,7 @@ module _ (before : List ℤ) (n : ℕ) (first second count : ℤ) where
   abbrev with-exclusion : List ℤ
   with-exclusion = set with-second exclusionCountCell count
 
-  module _ (room : n < 16) (long : length before ≡ cellCount) where
+  module _ (room : n < mostExclusions) (long : length before ≡ cellCount) where
     abbrev one : Wrote (firstCell n) (first ∷ []) before with-first
     one = wrote (firstCell n) (first ∷ []) before (omega arith)
 

@@ -12,7 +12,7 @@ use Rattle.peal.specs.Policies.{Rule, Policy, Book, policyAt, emptyPolicy, mask
 use Rattle.peal.specs.declared.Operator.{Operator}
 use Rattle.peal.proofs.MaskLaws.{mask-more}
 use Rattle.book.specs.Acceptance.{noRules, lastPolicy, withRule, withPolicies, withPolicy, withLast}
-use Rattle.book.specs.Cells.{operatorCode, cell, policyCells, policyFrom, operatorCell, defaultCell, countCell, maskCell, signalCell, scoreCell, cellCount, PolicyCells, BookCells}
+use Rattle.book.specs.Cells.{operatorCode, cell, policyCells, policyFrom, operatorCell, defaultCell, countCell, maskCell, signalCell, scoreCell, cellCount, PolicyCells, BookCells, mostPolicies, mostRules}
 use Rattle.book.specs.Ranges.{BookInRange}
 use Rattle.book.specs.Storing.{Stored}
 use Rattle.book.proofs.ChangedCells.{Wrote, wrote, wrote-from, wrote-first, Changed, changed, changed-then, policy-before, condition-after, exclusions-after, one-more, last-other}
@@ -24,7 +24,7 @@ module _ (before : List ℤ) (k : ℕ) (code default : ℤ) where
   abbrev with-policy : List ℤ
   with-policy = stored (set before (operatorCell k) code) (policyFrom k) 1 (default ∷ pos 0 ∷ pos 0 ∷ [])
 
-  module _ (o : Operator) (d : ℤ) (below : k < 16) (long : length before ≡ cellCount) (code-is : code ≡ operatorCode o) (default-is : default ≡ d) where
+  module _ (o : Operator) (d : ℤ) (below : k < mostPolicies) (long : length before ≡ cellCount) (code-is : code ≡ operatorCode o) (default-is : default ≡ d) where
     abbrev row : Wrote (policyFrom k) (code ∷ default ∷ pos 0 ∷ pos 0 ∷ []) before with-policy
     row = wrote-first (policyFrom k) code (default ∷ pos 0 ∷ pos 0 ∷ []) before (omega arith)
 
@@ -72,7 +72,7 @@ module _ (before : List ℤ) (k n : ℕ) (signal score count mask : ℤ) where
   abbrev with-rule : List ℤ
   with-rule = stored with-score (policyFrom k) 2 (count ∷ mask ∷ [])
 
-  module _ (below : k < 16) (room : n < 16) (long : length before ≡ cellCount) where
+  module _ (below : k < mostPolicies) (room : n < mostRules) (long : length before ≡ cellCount) where
     abbrev one : Wrote (signalCell k n) (signal ∷ []) before with-signal
     one = wrote (signalCell k n) (signal ∷ []) before (omega arith)
 

@@ -17,7 +17,7 @@ use Rattle.text.specs.declared.lines.Line.{Line}
 use Rattle.text.specs.declared.lines.LineRead.the-variants.{Good}
 use Rattle.book.specs.Acceptance.{BookSoFar, defaultOf, defaultInRange, accept}
 use Rattle.book.specs.Books.{acceptForm, readLine, Counts}
-use Rattle.book.specs.Cells.{BookCells}
+use Rattle.book.specs.Cells.{BookCells, mostCodes}
 use Rattle.book.specs.Meaning.{reasonNumber}
 use Rattle.book.specs.SoFar.{soFarOf, Holds, Kept}
 use Rattle.book.specs.declared.acceptance.SoFar.{SoFar}
@@ -59,7 +59,7 @@ PolicyAdded state before o default ranged step cells =
 -- a condition can be added: the first codes are those of an expression
 pub record CanAddCondition (state : SoFar) (cells : List ℤ) (codes : List ℕ) (count : ℕ) : Type 0 where
   pub kept : Kept state cells
-  pub few : count ≤ 31
+  pub few : count ≤ mostCodes
   pub expression : Expression
   pub held : HoldsCodes codes count expression
 

@@ -165,13 +165,13 @@ pub record BookCells (cells : List ℤ) (b : Book) : Type 0 where
 abbrev pub ReadInto : List ℕ → List ℤ → Type 0
 ReadInto bytes cells = (b : Book) → read bytes ≡ result b → BookCells cells b
 
--- a policy by value: its rules as two arrays of 16, with zeros after them
+-- a policy by value: its rules as two arrays, with zeros after them
 unfoldable pub storedPolicy : Policy → StoredPolicy
 storedPolicy p =
     record {
       operator = p .operator;
       default = p .default;
       count = length (p .rules);
-      signals = padded 16 0 (map (λ (r : Rule). r .signal) (p .rules));
-      scores = padded 16 (pos 0) (map (λ (r : Rule). r .score) (p .rules));
+      signals = padded mostRules 0 (map (λ (r : Rule). r .signal) (p .rules));
+      scores = padded mostRules (pos 0) (map (λ (r : Rule). r .score) (p .rules));
     }

@@ -15,7 +15,7 @@ use Rattle.text.specs.Codes.{codesOf}
 use Rattle.limits.specs.Limits.{exclusionInRange, defaultInRange, scoreInRange, thresholdInRange}
 use Rattle.book.specs.Acceptance.{mentionsBelow}
 use Rattle.book.specs.Books.{conditionAt}
-use Rattle.book.specs.Cells.{PolicyCells, ExclusionCells, BookCells, storedPolicy}
+use Rattle.book.specs.Cells.{PolicyCells, ExclusionCells, BookCells, storedPolicy, mostPolicies, mostExclusions}
 use Rattle.book.specs.declared.cells.Policy.{Policy as StoredPolicy}
 
 -- the signals of some rules
@@ -52,7 +52,7 @@ pub record BookInRange (b : Book) : Type 0 where
 -- the cells of policy k are those of a policy in range
 pub record PolicyKept (cells : List ℤ) (k : ℕ) : Type 0 where
   pub policy : Policy
-  pub below : k < 16
+  pub below : k < mostPolicies
   pub held : PolicyCells cells k policy
   pub range : PolicyInRange policy
 
@@ -60,7 +60,7 @@ pub record PolicyKept (cells : List ℤ) (k : ℕ) : Type 0 where
 pub record ExclusionsKept (cells : List ℤ) : Type 0 where
   pub exclusions : List Exclusion
   pub held : ExclusionCells cells exclusions
-  pub room : length exclusions ≤ 16
+  pub room : length exclusions ≤ mostExclusions
   pub range : Each ExclusionInRange exclusions
 
 -- the cells are those of a book in range, and condition n is one of it

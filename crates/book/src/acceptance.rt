@@ -16,7 +16,7 @@ ghost use lib.Dec.{eqb};
 ghost use Rattle.arith.specs.Lists.{exists};
 ghost use Rattle.text.specs.Forms.{rule, exclusion};
 ghost use Rattle.book.specs.Acceptance.{mentionsBelow, excludes};
-ghost use Rattle.book.specs.Cells.{ForExclusions, ForExpression};
+ghost use Rattle.book.specs.Cells.{ForExclusions, ForExpression, mostPolicies, mostCodes};
 ghost use Rattle.book.specs.Ranges.{ExclusionsKept};
 ghost use Rattle.book.specs.SoFar.{Kept};
 ghost use Rattle.book.specs.Judged.{JudgedFor, PolicyJudged, ConditionJudged};
@@ -41,7 +41,7 @@ pub enum Verdict {
 
 // Each policy that the expression mentions is one of the first so many.
 fn mentions_below(codes: &[u32; CODE_COUNT], count: usize, policies: u32) -> bool
-    requires { ⌜ (count ≤ 31) × (policies ≤ 16) ⌝ }
+    requires { ⌜ (count ≤ mostCodes) × (policies ≤ mostPolicies) ⌝ }
     ensures { λ r. ⌜ ForExpression (now (codes .entry)) count (λ e. r ≡ mentionsBelow policies e) ⌝ }
 {
     let mut i = 0;
@@ -129,7 +129,7 @@ pub fn judge_condition(
     codes: &[u32; CODE_COUNT],
     count: usize,
 ) -> Verdict
-    requires { ⌜ (state .policies ≤ 16) × (count ≤ 31) ⌝ }
+    requires { ⌜ (state .policies ≤ mostPolicies) × (count ≤ mostCodes) ⌝ }
     ensures { λ r. ⌜ ConditionJudged state threshold (now (codes .entry)) count r ⌝ }
 {
     if !limits::room_for_condition(state.conditions) {

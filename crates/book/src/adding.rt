@@ -28,7 +28,7 @@ ghost use Rattle.book.specs.Adding.{Adds, OldZeroAdded, PolicyAdded, Can
 // A score of 1.00, in hundredths.
 const FULL_SCORE: i32 = 100;
 
-// A line is added, and this stands so far; or it is refused, and nothing of use does.
+// A line is added, and this stands so far with it; or it is refused.
 pub enum Step {
     Added(SoFar),
     Refused(Reason),

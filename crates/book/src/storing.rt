@@ -24,7 +24,7 @@ ghost use mathlib.Core.Path.{_≡_};
 ghost use Prim.Native.Nat.{_+_, _<_};
 ghost use lib.ListN.{length};
 ghost use Rattle.book.specs.Acceptance.{emptyBook, noRules, withRule, withPolicy, withLast, withExclusion, withCondition, lastPolicy};
-ghost use Rattle.book.specs.Cells.{operatorCode, senseCode, BookCells, ForExpression};
+ghost use Rattle.book.specs.Cells.{operatorCode, senseCode, BookCells, ForExpression, mostPolicies};
 ghost use Rattle.book.specs.Storing.{Stored, anyBook, CanPutRule, CanPutExclusion, CanPutCondition};
 
 fn operator_code(operator: peal::Operator) -> i32
@@ -57,7 +57,7 @@ pub fn put_nothing(cells: &mut Cells)
 
 // Policy k, the next one, with no rules.
 pub fn put_policy(cells: &mut Cells, k: usize, operator: peal::Operator, default: i32)
-    requires { ⌜ k < 16 ⌝ }
+    requires { ⌜ k < mostPolicies ⌝ }
     ensures { λ r. ⌜ Stored (now (cells .entry)) (now (cells .exit)) (λ b. k ≡ length (b .policies))
         (λ b. withPolicy b (noRules operator default)) ⌝ }
 {
