@@ -194,10 +194,8 @@ fn accepted_both(yes: u16, no: u16, judged: u32) -> u64
     requires { ⌜ (0 < judged) × (judged ≤ 2 ^ 16) ⌝ }
     ensures { λ r. ⌜ r ≡ asOne 0 (2 + fromBit16 * yes + fromBit32 * no + fromBit48 * (judged - 1)) ⌝ }
 {
-    accepted_choice(
-        2 + FROM_BIT_16 * yes as u64 + FROM_BIT_32 * no as u64,
-        judged,
-    )
+    let value = 2 + FROM_BIT_16 * yes as u64 + FROM_BIT_32 * no as u64;
+    accepted_choice(value, judged)
 }
 
 #[no_mangle]
