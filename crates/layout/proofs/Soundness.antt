@@ -13,8 +13,8 @@ use Rattle.arith.specs.Trees.{leaf, join, value, joining, postfix}
 use Rattle.signals.specs.Sets.{isSet, inside}
 use Rattle.layout.specs.Records.{Record, records, words, Join, and, or, Kind, policy, line, exclusion, oneIf, lineKind, joinKind, exclusionKind, policyKind, kindOf, isLine, kinds}
 use Rattle.layout.specs.Judgement.{ifAny, ifLine, nextNode, SoFar, noRecord, insidePolicy, keepsLayout, soFarAfter, judged, lengthSound, verdict}
-use Rattle.layout.specs.Nodes.{ListedNode, ListedTree, lineRecords, nodeRecords, exclusionRecords, listing, leadingLines, nodeThen, nodes, pairThen, excluded}
-use Rattle.layout.specs.WellFormed.{LinesFit, TreeFits, ArePairs, PairsFit, WellFormed}
+use Rattle.layout.specs.Nodes.{ListedNode, lineRecords, nodeRecords, exclusionRecords, listing, leadingLines, nodeThen, nodes, pairThen, excluded}
+use Rattle.layout.specs.WellFormed.{ListedTree, LinesFit, TreeFits, ArePairs, PairsFit, WellFormed}
 use Rattle.arith.specs.Leaves.{leafCount}
 
 -- ---- kinds and tests

@@ -6,7 +6,7 @@ use mir.Val.{toZ, ofZ}
 use borrow.Author.Needs.{needs}
 use denote.Ref.{now}
 use Rattle.text.specs.Text.{bytes}
-use Rattle.text.specs.Forms.{conditionLine, formOf}
+use Rattle.text.specs.Forms.{formOf}
 use Rattle.text.specs.Spelling.{numberMeaning, senseMeaning}
 use Rattle.text.proofs.TextLaws.{is-length}
 use Rattle.text.proofs.LineLaws.{number-length, sense-length}
@@ -29,7 +29,7 @@ enum-told : tie.Need-enum-told
 enum-told c = search needs
 
 returns : tie.Need-returns
-unfolding formOf conditionLine
+unfolding formOf
 returns c =
     let read = c .before .before in
     let k = read .before in
@@ -45,7 +45,7 @@ enum-told-2 : tie.Need-enum-told-2
 enum-told-2 c = search needs
 
 returns-2 : tie.Need-returns-2
-unfolding formOf conditionLine
+unfolding formOf
 returns-2 c =
     let read-2 = c .before .before in
     let found = read-2 .before .before in
@@ -57,7 +57,7 @@ returns-2 c =
     )
 
 returns-3 : tie.Need-returns-3
-unfolding formOf conditionLine
+unfolding formOf
 returns-3 c =
     let found-2 = c .before in
     let read-2 = found-2 .before .before in

@@ -3,7 +3,7 @@ use mathlib.Core.Path.{_≡_, sym, ap, _∙_}
 use mir.Syntax.{w32}
 use mir.Val.{toZ, ofZ}
 use borrow.Author.Needs.{needs}
-use Rattle.text.specs.Forms.{fullPolicy, ruleLine, exclusionLine, formOf}
+use Rattle.text.specs.Forms.{formOf}
 use Rattle.text.specs.Spelling.{naturalMeaning, numberMeaning, operatorMeaning}
 use Rattle.text.proofs.lines.three_fields.Statement.{statement}
 use Rattle.text.proofs.lines.three_fields.Tie as tie
@@ -24,7 +24,7 @@ enum-told : tie.Need-enum-told
 enum-told c = search needs
 
 returns : tie.Need-returns
-unfolding formOf fullPolicy
+unfolding formOf
 returns c =
     let read = c .before .before in
     let p = read .before in
@@ -40,7 +40,7 @@ enum-told-2 : tie.Need-enum-told-2
 enum-told-2 c = search needs
 
 returns-2 : tie.Need-returns-2
-unfolding formOf fullPolicy
+unfolding formOf
 returns-2 c =
     let read-2 = c .before .before in
     let found = read-2 .before .before in
@@ -52,7 +52,7 @@ returns-2 c =
     )
 
 returns-3 : tie.Need-returns-3
-unfolding formOf fullPolicy
+unfolding formOf
 returns-3 c =
     let found-2 = c .before in
     let read-2 = found-2 .before .before in
@@ -81,7 +81,7 @@ enum-told-3 : tie.Need-enum-told-3
 enum-told-3 c = search needs
 
 returns-4 : tie.Need-returns-4
-unfolding formOf ruleLine
+unfolding formOf
 returns-4 c =
     let read = c .before .before in
     let r = read .before in
@@ -101,7 +101,7 @@ enum-told-4 : tie.Need-enum-told-4
 enum-told-4 c = search needs
 
 returns-5 : tie.Need-returns-5
-unfolding formOf ruleLine
+unfolding formOf
 returns-5 c =
     let read-2 = c .before .before in
     let found = read-2 .before .before in
@@ -114,7 +114,7 @@ returns-5 c =
     )
 
 returns-6 : tie.Need-returns-6
-unfolding formOf ruleLine
+unfolding formOf
 returns-6 c =
     let found-2 = c .before in
     let read-2 = found-2 .before .before in
@@ -144,7 +144,7 @@ enum-told-5 : tie.Need-enum-told-5
 enum-told-5 c = search needs
 
 returns-7 : tie.Need-returns-7
-unfolding formOf exclusionLine
+unfolding formOf
 returns-7 c =
     let read = c .before .before in
     let x = read .before in
@@ -165,7 +165,7 @@ enum-told-6 : tie.Need-enum-told-6
 enum-told-6 c = search needs
 
 returns-8 : tie.Need-returns-8
-unfolding formOf exclusionLine
+unfolding formOf
 returns-8 c =
     let read-2 = c .before .before in
     let found = read-2 .before .before in
@@ -179,7 +179,7 @@ returns-8 c =
     )
 
 returns-9 : tie.Need-returns-9
-unfolding formOf exclusionLine
+unfolding formOf
 returns-9 c =
     let found-2 = c .before in
     let read-2 = found-2 .before .before in

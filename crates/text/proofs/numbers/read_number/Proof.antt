@@ -1,12 +1,14 @@
 -- `text::numbers::read_number`: by the first byte, what the digits mean; below a million, -n fits 32 bits.
 use Prim.Native.Nat.{ℕ, _-_}
 use mathlib.Core.List.{List}
-use mathlib.Core.Option.{some}
+use mathlib.Core.Option.{some, Option·map}
 use mathlib.Core.Path.{_≡_, sym, ap, _∙_}
 use borrow.Author.Needs.{needs}
 use denote.Ref.{now}
 use lib.ListN.{length, take, drop}
-use Rattle.text.specs.Numbers.{natural, positive, negative, number}
+use lib.IntN.{pos}
+use Rattle.arith.specs.Options.{_>>=_}
+use Rattle.text.specs.Numbers.{natural, negated, number}
 use Rattle.text.specs.Spelling.{naturalMeaning}
 use Rattle.text.proofs.NumberLaws.{natural-small, empty-no-number, minus-number, plain-number, minus-zero, minus-some, minus-none, plain-some, plain-none, pos-fits, pos-read, minus-fits, minus-read}
 use Rattle.text.proofs.numbers.read_number.Statement.{statement}
@@ -26,10 +28,10 @@ found c = sym (c .before .before .read-natural .ensures) ∙ ap naturalMeaning (
 found-2 : (c : tie.After-n2) → natural (whole (c .before .before .before .before)) ≡ some (c .n2 .given .0 .0)
 found-2 c = sym (c .before .before .read-natural2 .ensures) ∙ ap naturalMeaning (c .n2 .given .1)
 
-minus : (c : tie.Then2) → number (whole (c .before)) ≡ negative (natural (behind (c .before)))
+minus : (c : tie.Then2) → number (whole (c .before)) ≡ (natural (behind (c .before)) >>= negated)
 minus c = minus-number _ (c .before .before .if1 .left) (c .if2 .taken)
 
-plain : (c : tie.Else2) → number (whole (c .before)) ≡ positive (natural (whole (c .before)))
+plain : (c : tie.Else2) → number (whole (c .before)) ≡ Option·map pos (natural (whole (c .before)))
 plain c = plain-number _ (c .before .before .if1 .left) (c .if2 .left)
 
 returns : tie.Need-returns
