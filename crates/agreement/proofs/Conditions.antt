@@ -10,8 +10,8 @@ use Rattle.arith.specs.Members.{Each}
 use Rattle.arith.specs.Trees.{leaf, join, mapTree, treeValue}
 use Rattle.arith.specs.Leaves.{leafCount, leafCount}
 use Rattle.arith.proofs.Each.{each-default}
-use Rattle.layout.specs.Nodes.{ListedPolicy, ListedTree}
-use Rattle.layout.specs.WellFormed.{PolicyFits, TreeFits}
+use Rattle.layout.specs.Nodes.{ListedPolicy}
+use Rattle.layout.specs.WellFormed.{ListedTree, PolicyFits, TreeFits}
 use Rattle.rod.specs.Reading.{policyValue, joined}
 use Rattle.rod.proofs.Trees.{rod-tree}
 use Rattle.peal.specs.Policies.{Policy, MinMax, smaller, larger, Expression, Condition, Book, emptyPolicy, policyAt}

@@ -1,6 +1,6 @@
 -- The way through a sound listing with tables: each set of a group at once.
 use Prim.Native.Nat.{ℕ, zero, suc, _+_, _-_, _*_, _/_, _≤_, _<_}
-use mathlib.Core.Bool.{Bool}
+use mathlib.Core.Bool.{Bool, false}
 use mathlib.Core.List.{List, [], _∷_}
 use mathlib.Core.Path.{_≡_, refl, sym, ap, ap₂, subst, _∙_}
 use native.Mathlib.Numerals.{add-one}
@@ -17,7 +17,7 @@ use Rattle.layout.specs.Steps.{recordAt, recordsFrom}
 use Rattle.layout.proofs.KeptLaws.{kept-policy, kept-join, no-owner}
 use Rattle.layout.proofs.SoundNodes.{sound-well-formed}
 use Rattle.layout.proofs.Places.{from-nil}
-use Rattle.rod.specs.Reading.{policyValue, joined, remaining, reading, says}
+use Rattle.rod.specs.Reading.{policyValue, joined, says}
 use Rattle.rod.specs.Values.{policyAt, nodeEnd}
 use Rattle.rod.proofs.Steps.{step, node-after, policy-lines, taken-here, first-node}
 use Rattle.groups.specs.Groups.{GroupOf, SoundWith}
@@ -51,14 +51,14 @@ held-two values k height = ap (heldWords values k) (two height) ∙ ap (λ (i : 
 -- ---- the way
 
 group-begins : (ws : List ℕ) (group : ℕ) (values : List ℕ) → length values ≡ 256 → verdict ws ≡ result tt → group ≤ 63 → GroupUnderway ws group 0 values 0
-unfolding recordsFrom noRecord heldWords column says reading first-node
+unfolding recordsFrom noRecord heldWords column says first-node
 group-begins ws group values room v within =
     record { within = within; room = room; node = first-node ws v; level = refl; few = omega arith; atMost = omega arith; same = λ k b j h. refl }
 
 module _ (ws : List ℕ) (group at : ℕ) (values : List ℕ) (height : ℕ) (lt : at < length ws / 4) (u : GroupUnderway ws group at values height) where
   -- the values of a set of the group
   abbrev after : List ListedNode → ℕ → ℕ → List Bool → Bool
-  after ns k j stack = remaining (run joined (policyValue (64 * (16 * group + k) + j)) ns stack)
+  after ns k j stack = getD (run joined (policyValue (64 * (16 * group + k) + j)) ns stack) 0 false
 
   -- a policy adds its words
   module _ (q t : Bool) (e : policy q t ≡ kindOf (getD ws (at * 4) 0)) where
@@ -156,9 +156,9 @@ past-pairs ws pairs group values room s within (suc n) h =
 
 -- after the last record one value remains
 pub group-ends : (ws : List ℕ) (group at : ℕ) (values : List ℕ) (height : ℕ) → length ws / 4 ≤ at → GroupUnderway ws group at values height → GroupOf (says ws) group values
-unfolding remaining run nodes column heldWords
+unfolding run nodes column heldWords
 group-ends ws group at values height h u k b j l =
-    ap (λ (i : ℕ). present (getD values i 0) j) (sym (first k)) ∙ sym (ap (λ (n : ℕ). remaining (column j (heldWords values k n))) one) ∙ rw (from-nil ws at h) at (u .same k b j l)
+    ap (λ (i : ℕ). present (getD values i 0) j) (sym (first k)) ∙ sym (ap (λ (n : ℕ). getD (column j (heldWords values k n)) 0 false) one) ∙ rw (from-nil ws at h) at (u .same k b j l)
   where
     first : (i : ℕ) → 0 * 16 + i ≡ i
     first i = omega arith

@@ -1,6 +1,6 @@
 -- The values as the code keeps them, sixteen tables at most, and where it stands in a sound listing.
 use Prim.Native.Nat.{ℕ, zero, suc, _+_, _*_, _/_, _≤_, _<_}
-use mathlib.Core.Bool.{Bool, not, cond, Bool·beq}
+use mathlib.Core.Bool.{Bool, false, not, cond, Bool·beq}
 use mathlib.Core.List.{List, [], _∷_, map}
 use mathlib.Core.Path.{_≡_}
 use lib.ListN.{length, getD}
@@ -11,7 +11,7 @@ use Rattle.blocks.specs.Blocks.{WordOf, BlockOf}
 use Rattle.layout.specs.Records.{Join}
 use Rattle.layout.specs.Nodes.{ListedPolicy, nodes}
 use Rattle.layout.specs.Steps.{recordsFrom}
-use Rattle.rod.specs.Reading.{policyValue, joined, remaining, says}
+use Rattle.rod.specs.Reading.{policyValue, joined, says}
 use Rattle.rod.specs.Values.{lineAt, LinesTo, policyAt, NodeAt}
 
 -- where word k of the value at a height stands
@@ -81,5 +81,5 @@ pub record GroupUnderway (ws : List ℕ) (group at : ℕ) (values : List ℕ) (h
   pub few : node .above .values ≤ node .above .policies
   pub atMost : node .above .policies ≤ 16
   pub same : (k : ℕ) → k < 16 → (j : ℕ) → j < 64
-      → remaining (run joined (policyValue (64 * (16 * group + k) + j)) (nodes (recordsFrom ws at)) (column j (heldWords values k height)))
+      → getD (run joined (policyValue (64 * (16 * group + k) + j)) (nodes (recordsFrom ws at)) (column j (heldWords values k height))) 0 false
       ≡ says ws (64 * (16 * group + k) + j)

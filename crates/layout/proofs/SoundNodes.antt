@@ -16,8 +16,8 @@ use Rattle.arith.specs.Leaves.{leafCount}
 use Rattle.signals.specs.Sets.{isSet, inside}
 use Rattle.layout.specs.Records.{Record, records, Kind, policy, line, exclusion, kindOf, isLine, kinds, unknown}
 use Rattle.layout.specs.Judgement.{SoFar, noRecord, insidePolicy, keepsLayout, soFarAfter, judged, verdict}
-use Rattle.layout.specs.Nodes.{ListedNode, ListedTree, leadingLines, nodeThen, nodes, pairThen, excluded}
-use Rattle.layout.specs.WellFormed.{LinesFit, TreeFits, ArePairs, PairsFit, WellFormed}
+use Rattle.layout.specs.Nodes.{ListedNode, leadingLines, nodeThen, nodes, pairThen, excluded}
+use Rattle.layout.specs.WellFormed.{ListedTree, LinesFit, TreeFits, ArePairs, PairsFit, WellFormed}
 use Rattle.layout.proofs.KeptLaws.{kept-line, sound-step, sound-judged, kept-policy, kept-join, kept-exclusion}
 
 -- ---- pairs

@@ -14,8 +14,8 @@ use Rattle.arith.specs.Leaves.{leafCount}
 use Rattle.signals.specs.Sets.{isSet, inside}
 use Rattle.layout.specs.Records.{Record, words, Kind, policy, line, exclusion, lineKind, joinKind, exclusionKind, policyKind, kindOf, kinds}
 use Rattle.layout.specs.Judgement.{ifAny, ifLine, nextNode, SoFar, noRecord, insidePolicy, keepsLayout, soFarAfter, judged, lengthSound, verdict}
-use Rattle.layout.specs.Nodes.{ListedNode, ListedTree, lineRecords, nodeRecords, exclusionRecords, listing}
-use Rattle.layout.specs.WellFormed.{LinesFit, TreeFits, ArePairs, PairsFit, WellFormed}
+use Rattle.layout.specs.Nodes.{ListedNode, lineRecords, nodeRecords, exclusionRecords, listing}
+use Rattle.layout.specs.WellFormed.{ListedTree, LinesFit, TreeFits, ArePairs, PairsFit, WellFormed}
 use Rattle.layout.proofs.KindLaws.{kind-line, kind-policy, kind-join, kind-exclusion}
 use Rattle.layout.proofs.WordLaws.{records-words, length-words}
 use Rattle.layout.proofs.ListedLaws.{no-line, any-nodes, next-nodes, line-lines, next-lines}

@@ -3,7 +3,7 @@ use Prim.Native.Nat.{ℕ, _+_}
 use mathlib.Core.Bool.{Bool, cond}
 use mathlib.Core.List.{List, [], _∷_, _++_}
 use lib.ListN.{length}
-use Rattle.arith.specs.Trees.{Tree, Node, value, joining}
+use Rattle.arith.specs.Trees.{Node, value, joining}
 use Rattle.layout.specs.Records.{Record, Join, Kind, policy, line, join, exclusion, unknown, isLine, kindOf, lineKind, policyKind, joinKind, exclusionKind}
 use Rattle.layout.specs.Judgement.{ifAny}
 
@@ -18,10 +18,6 @@ pub record ListedPolicy : Type 0 where
 abbrev pub ListedNode : Type 0
 ListedNode = Node Join ListedPolicy
 
--- what a condition becomes: policies joined by "and" and "or"
-abbrev pub ListedTree : Type 0
-ListedTree = Tree Join ListedPolicy
-
 -- the records of a policy's lines, the first of which is record n
 unfoldable pub lineRecords : ℕ → List ℕ → List Record
 lineRecords n [] = []
@@ -31,13 +27,9 @@ lineRecords n (l ∷ ls) = record { kind = lineKind; mask = l; lines = 0; next =
 unfoldable pub nodeRecords : ℕ → List ListedNode → List Record
 nodeRecords n [] = []
 nodeRecords n (value p ∷ ns) =
-    record {
-      kind = policyKind (p .quiet) (p .turned);
-      mask = p .mask;
-      lines = ifAny (p .lines) (n + 1);
-      next = ifAny ns (n + 1 + length (p .lines));
-    }
-    ∷ (lineRecords (n + 1) (p .lines) ++ nodeRecords (n + 1 + length (p .lines)) ns)
+    let after = n + 1 + length (p .lines) in
+    record { kind = policyKind (p .quiet) (p .turned); mask = p .mask; lines = ifAny (p .lines) (n + 1); next = ifAny ns after }
+    ∷ (lineRecords (n + 1) (p .lines) ++ nodeRecords after ns)
 nodeRecords n (joining j ∷ ns) =
     record { kind = joinKind j; mask = 0; lines = 0; next = ifAny ns (n + 1) } ∷ nodeRecords (n + 1) ns
 

@@ -5,9 +5,10 @@ use mathlib.Core.List.{List, [], _∷_}
 use mathlib.Core.Path.{_≡_}
 use lib.ListN.{length}
 use Rattle.arith.specs.Members.{Each}
-use Rattle.arith.specs.Trees.{leaf, join, value, joining}
+use Rattle.arith.specs.Trees.{Tree, leaf, join, value, joining}
 use Rattle.signals.specs.Sets.{inside, isPair}
-use Rattle.layout.specs.Nodes.{ListedPolicy, ListedNode, ListedTree}
+use Rattle.layout.specs.Records.{Join}
+use Rattle.layout.specs.Nodes.{ListedPolicy, ListedNode}
 
 -- each line is a signal set inside the mask
 abbrev pub LinesFit : ℕ → List ℕ → Type 0
@@ -18,6 +19,10 @@ LinesFit mask (l ∷ ls) = (l ≤ 65535) × (inside l mask ≡ true) × LinesFit
 pub record PolicyFits (p : ListedPolicy) : Type 0 where
   pub maskFits : p .mask ≤ 65535
   pub linesFit : LinesFit (p .mask) (p .lines)
+
+-- policies joined by "and" and "or"
+abbrev pub ListedTree : Type 0
+ListedTree = Tree Join ListedPolicy
 
 -- every policy of the tree fits
 abbrev pub TreeFits : ListedTree → Type 0

@@ -17,7 +17,7 @@ use Rattle.arith.proofs.Reordering.{among-reordered}
 use Rattle.peal.specs.Policies.{Rule}
 use Rattle.peal.specs.Score.{scaled, total, scoreProduct, scaledProduct}
 use Rattle.peal.specs.Ranking.{ranked}
-use Rattle.peal.specs.Lines.{setsInside, smallerSets, minimal, minimalSets, singles, scoreAbove, scoreAtMost, has, lines}
+use Rattle.peal.specs.Lines.{setsInside, smallerSets, minimal, minimalSets, scoreAbove, scoreAtMost, has, lines}
 use Rattle.peal.specs.SetsOfRules.{SetInside}
 use Rattle.arith.specs.Members.{Among}
 use Rattle.peal.specs.SearchFindsLines.{RulesFit}
@@ -30,6 +30,10 @@ use Rattle.peal.proofs.RankLaws.{ranked-reordered}
 use Rattle.peal.proofs.PersistLaws.{fits-reordered, fits-inside, has-all}
 
 module _ (test : Rule → Bool) where
+  -- the single rules that pass the test
+  abbrev singles : List Rule → List (List Rule)
+  singles rules = map (λ r. r ∷ []) (keep test rules)
+
   one-minimal : (r : Rule) → minimal (exists test) (r ∷ []) ≡ test r
   unfolding minimal smallerSets setsInside
   one-minimal r = go (test r)
@@ -47,8 +51,8 @@ module _ (test : Rule → Bool) where
       (λ h. clash h (least .noSmaller (r ∷ X) (Sublistᴰ·cons (Sublistᴰ·refl (r ∷ X))) refl (omega arith)))
       (or-cases (test q) (exists test (r ∷ X)) (least .holds)))
 
-  minimal-singles : (rules : List Rule) → minimalSets (exists test) rules ≡ singles test rules
-  unfolding minimalSets setsInside singles minimal smallerSets
+  minimal-singles : (rules : List Rule) → minimalSets (exists test) rules ≡ singles rules
+  unfolding minimalSets setsInside minimal smallerSets
   minimal-singles [] = refl
   minimal-singles (r ∷ rules) =
       ap (keep (minimal (exists test))) (subsets-more r rules)
@@ -62,8 +66,7 @@ module _ (test : Rule → Bool) where
       go true = refl
       go false = refl
 
-  among-singles : (op : Operator) (rules X : List Rule) → Among X (singles test (ranked op rules)) ↔ Single test rules X
-  unfolding singles
+  among-singles : (op : Operator) (rules X : List Rule) → Among X (singles (ranked op rules)) ↔ Single test rules X
   among-singles op rules X = (there, back)
     where
       there : Among X (map (λ r. r ∷ []) (keep test (ranked op rules))) → Single test rules X
@@ -92,7 +95,6 @@ lines-are-single t rules X =
 -- ---- where the empty set has the property
 
 each-rule : (op : Operator) (t : ℤ) (rules : List Rule) → RulesFit op rules → has op t [] ≡ true → EachRule op t rules
-unfolding singles
 each-rule op t rules fit none =
     lines-minimal op t rules
     ∙ minimal-same (has op t) (exists (λ r. true)) (ranked op rules) same

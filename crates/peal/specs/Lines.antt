@@ -29,10 +29,6 @@ minimal property X = property X && every (λ Y. not (property Y)) (smallerSets X
 unfoldable pub minimalSets : (List Rule → Bool) → List Rule → List (List Rule)
 minimalSets property rules = keep (minimal property) (setsInside rules)
 
--- the single rules that pass a test
-unfoldable pub singles : (Rule → Bool) → List Rule → List (List Rule)
-singles test rules = map (λ r. r ∷ []) (keep test rules)
-
 -- the tests of max and of min: V exceeds T, V is at most T
 abbrev pub scoreAbove : ℤ → Rule → Bool
 scoreAbove t r = ltZ t (r .score)
@@ -47,9 +43,9 @@ has Mul t X = leZ (scaledProduct X) (scaled t)
 has Max t X = exists (scoreAbove t) X
 has Min t X = exists (scoreAtMost t) X
 
--- the lines of a policy under threshold T, in falling order of the sum of 2 to the rank
+-- the lines of a policy under threshold T, in falling order of the sum of 2 to the rank: minimal sets, or single rules
 unfoldable pub lines : Operator → ℤ → List Rule → List (List Rule)
 lines Sum t rules = minimalSets (has Sum t) (ranked Sum rules)
 lines Mul t rules = minimalSets (has Mul t) (ranked Mul rules)
-lines Max t rules = singles (scoreAbove t) (ranked Max rules)
-lines Min t rules = singles (scoreAtMost t) (ranked Min rules)
+lines Max t rules = map (λ r. r ∷ []) (keep (scoreAbove t) (ranked Max rules))
+lines Min t rules = map (λ r. r ∷ []) (keep (scoreAtMost t) (ranked Min rules))

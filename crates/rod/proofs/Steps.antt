@@ -1,6 +1,6 @@
 -- The rod's way through a sound listing, a node at a time.
 use Prim.Native.Nat.{ℕ, _+_, _-_, _*_, _/_, _≤_, _<_}
-use mathlib.Core.Bool.{Bool, true, false≢true}
+use mathlib.Core.Bool.{Bool, true, false, false≢true}
 use mathlib.Core.List.{List, [], _∷_}
 use mathlib.Core.Logic.{_⊎_, inl, inr, ⊎-elim}
 use mathlib.Core.Path.{_≡_, refl, sym, ap, ap₂, subst, _∙_}
@@ -19,7 +19,7 @@ use Rattle.layout.proofs.KeptLaws.{kept-policy, kept-join, kept-exclusion, some
 use Rattle.layout.proofs.SoundNodes.{lines-fit, sound-well-formed}
 use Rattle.layout.proofs.Places.{from-cons, from-nil}
 use Rattle.layout.proofs.Runs.{behindLines, behind-drop, behind-no-line, behind-nodes, behind-next, behind-judged, from-behind, run-in-words, nodes-here}
-use Rattle.rod.specs.Reading.{policyValue, joined, remaining, reading, says, rodAnswer}
+use Rattle.rod.specs.Reading.{policyValue, joined, says, rodAnswer}
 use Rattle.rod.specs.Values.{bitsOf, ValueAdded, LastJoined, AllSets, LinesTo, policyAt, nodeEnd, NodeAt, Underway}
 use Rattle.rod.proofs.ValueLaws.{bits-below, one-value}
 
@@ -76,11 +76,11 @@ module _ (ws : List ℕ) (at : ℕ) (lt : at < length ws / 4) (node : NodeAt ws 
 
   -- it is taken first, and then the nodes after it
   pub taken-here : (set : ℕ) (stack : List Bool) (k : Kind) → k ≡ kindOf (getD ws (at * 4) 0)
-      → remaining (run joined (policyValue set) (nodeThen k (getD ws (at * 4 + 1) 0) (leadingLines rest) (nodes (recordsFrom ws (nodeEnd ws at)))) stack)
-      ≡ remaining (run joined (policyValue set) (nodes (recordsFrom ws at)) stack)
+      → getD (run joined (policyValue set) (nodeThen k (getD ws (at * 4 + 1) 0) (leadingLines rest) (nodes (recordsFrom ws (nodeEnd ws at)))) stack) 0 false
+      ≡ getD (run joined (policyValue set) (nodes (recordsFrom ws at)) stack) 0 false
   taken-here set stack k e =
-      ap (λ (ns : List ListedNode). remaining (run joined (policyValue set) (nodeThen k (getD ws (at * 4 + 1) 0) (leadingLines rest) ns) stack)) nodes-after
-      ∙ ap (λ (ns : List ListedNode). remaining (run joined (policyValue set) ns stack)) (sym (nodes-here ws at k lt e))
+      ap (λ (ns : List ListedNode). getD (run joined (policyValue set) (nodeThen k (getD ws (at * 4 + 1) 0) (leadingLines rest) ns) stack) 0 false) nodes-after
+      ∙ ap (λ (ns : List ListedNode). getD (run joined (policyValue set) ns stack) 0 false) (sym (nodes-here ws at k lt e))
 
   -- its lines are signal sets
   pub policy-lines : (q t : Bool) → policy q t ≡ kindOf (getD ws (at * 4) 0) → (end : ℕ) → end ≡ nodeEnd ws at → LinesTo ws (at + 1) end
@@ -137,7 +137,7 @@ first-node ws v = let j = sound-judged ws v .1 in record { above = noRecord; sou
 
 -- before the first node there are no values
 pub begins : (ws : List ℕ) (set : ℕ) → verdict ws ≡ result tt → Underway ws set 0 0
-unfolding recordsFrom noRecord bitsOf says reading first-node
+unfolding recordsFrom noRecord bitsOf says first-node
 begins ws set v =
     record { node = first-node ws v; stack = []; held = refl; height = refl; few = omega arith; atMost = omega arith; same = refl }
 
@@ -146,7 +146,7 @@ module _ (ws : List ℕ) (set at values : ℕ) (lt : at < length ws / 4) (u : Un
   values-small = omega (arith, bits-below (u .stack) 16 (omega (arith, u .height, u .few, u .atMost)), u .held)
 
   same-here : (k : Kind) → k ≡ kindOf (getD ws (at * 4) 0)
-      → remaining (run joined (policyValue set) (nodeThen k (getD ws (at * 4 + 1) 0) (leadingLines (recordsFrom ws (at + 1))) (nodes (recordsFrom ws (nodeEnd ws at)))) (u .stack)) ≡ says ws set
+      → getD (run joined (policyValue set) (nodeThen k (getD ws (at * 4 + 1) 0) (leadingLines (recordsFrom ws (at + 1))) (nodes (recordsFrom ws (nodeEnd ws at)))) (u .stack)) 0 false ≡ says ws set
   same-here k e = taken-here ws at lt (u .node) set (u .stack) k e ∙ u .same
 
   -- a policy adds its value
@@ -162,7 +162,7 @@ module _ (ws : List ℕ) (set at values : ℕ) (lt : at < length ws / 4) (u : Un
         height = omega (arith, u .height);
         few = omega (arith, u .few);
         atMost = k .3;
-        same = ap (λ (x : Bool). remaining (run joined (policyValue set) (nodes (recordsFrom ws (nodeEnd ws at))) (x ∷ u .stack))) ev ∙ same-here (policy q t) e;
+        same = ap (λ (x : Bool). getD (run joined (policyValue set) (nodes (recordsFrom ws (nodeEnd ws at))) (x ∷ u .stack)) 0 false) ev ∙ same-here (policy q t) e;
       }
 
   -- an exclusion leaves the values as they are
@@ -189,7 +189,7 @@ module _ (ws : List ℕ) (set at values : ℕ) (lt : at < length ws / 4) (u : Un
       two = kept-join (at + 1) (u .node .above) (recordAt ws at) (kinds (recordsFrom ws (at + 1))) j (step ws at lt (u .node) (Kind.join j) e .0) .3
 
       go : (st : List Bool) → values ≡ bitsOf st → u .node .above .values ≡ length st
-          → remaining (run joined (policyValue set) (nodeThen (Kind.join j) (getD ws (at * 4 + 1) 0) (leadingLines (recordsFrom ws (at + 1))) (nodes (recordsFrom ws (nodeEnd ws at)))) st) ≡ says ws set
+          → getD (run joined (policyValue set) (nodeThen (Kind.join j) (getD ws (at * 4 + 1) 0) (leadingLines (recordsFrom ws (at + 1))) (nodes (recordsFrom ws (nodeEnd ws at)))) st) 0 false ≡ says ws set
           → Underway ws set (nodeEnd ws at) r
       go [] h l s = absurd (omega (arith, two))
       go (b ∷ []) h l s = absurd (omega (arith, two))
@@ -210,13 +210,13 @@ at-end ws set at end values e u = subst (λ (x : ℕ). Underway ws set x values)
 
 -- after the last record one value remains
 pub ends : (ws : List ℕ) (set at values : ℕ) → length ws / 4 ≤ at → Underway ws set at values → eqb values 1 ≡ says ws set
-unfolding remaining run nodes
+unfolding run nodes
 ends ws set at values h u = go (u .stack) (u .held) (u .height) (rw (from-nil ws at h) at (u .same))
   where
     one : u .node .above .values ≡ 1
     one = sound-well-formed at (u .node .above) [] (rw (from-nil ws at h) at (u .node .sound))
 
-    go : (st : List Bool) → values ≡ bitsOf st → u .node .above .values ≡ length st → remaining st ≡ says ws set → eqb values 1 ≡ says ws set
+    go : (st : List Bool) → values ≡ bitsOf st → u .node .above .values ≡ length st → getD st 0 false ≡ says ws set → eqb values 1 ≡ says ws set
     go [] e l s = absurd (omega (arith, one))
     go (b ∷ []) e l s = ap (λ (x : ℕ). eqb x 1) e ∙ one-value b ∙ s
     go (b ∷ a ∷ st) e l s = absurd (omega (arith, one))

@@ -1,24 +1,26 @@
 -- The rod's answer on the listing of a tree is the tree's value; every sound listing is such a listing.
 use Prim.Native.Nat.{ℕ, _≤_}
+use mathlib.Core.Bool.{Bool, false}
 use mathlib.Core.List.{List, [], append-nil}
 use mathlib.Core.Path.{_≡_, refl, sym, ap, _∙_}
+use lib.ListN.{getD}
 use Rattle.answers.specs.Answers.{result}
 use Rattle.arith.specs.Trees.{postfix, treeValue, run}
 use Rattle.arith.proofs.Trees.{run-tree}
 use Rattle.arith.specs.Leaves.{leafCount}
 use Rattle.layout.specs.Records.{words}
 use Rattle.layout.specs.Judgement.{verdict}
-use Rattle.layout.specs.Nodes.{ListedNode, ListedTree, listing}
-use Rattle.layout.specs.WellFormed.{TreeFits, PairsFit}
+use Rattle.layout.specs.Nodes.{ListedNode, listing}
+use Rattle.layout.specs.WellFormed.{ListedTree, TreeFits, PairsFit}
 use Rattle.layout.proofs.Soundness.{tree-sound}
 use Rattle.layout.proofs.ListedLaws.{nodes-listing}
 use Rattle.layout.proofs.SoundNodes.{sound-tree}
-use Rattle.rod.specs.Reading.{policyValue, joined, remaining, reading, says, rodAnswer}
+use Rattle.rod.specs.Reading.{policyValue, joined, says, rodAnswer}
 
-reading-tree : (t : ListedTree) (set : ℕ) → reading (postfix t) set ≡ treeValue joined (policyValue set) t
-unfolding reading run remaining
+reading-tree : (t : ListedTree) (set : ℕ) → getD (run joined (policyValue set) (postfix t) []) 0 false ≡ treeValue joined (policyValue set) t
+unfolding run
 reading-tree t set =
-    ap remaining
+    ap (λ (values : List Bool). getD values 0 false)
     (ap (λ (ns : List ListedNode). run joined (policyValue set) ns []) (sym (append-nil (postfix t))) ∙ run-tree joined (policyValue set) t [] [])
 
 -- on the listing of a tree that fits, of at most 16 policies, whatever pairs are excluded, the rod never refuses and gives the tree's value

@@ -1,14 +1,15 @@
 -- The rod's reading of a listing on a signal set (document 01, "The rod's reading").
 use Prim.Native.Nat.{ℕ}
 use mathlib.Core.Bool.{Bool, false, not, cond, _&&_, _||_}
-use mathlib.Core.List.{List, [], _∷_}
+use mathlib.Core.List.{List, []}
+use lib.ListN.{getD}
 use Rattle.arith.specs.Lists.{exists}
 use Rattle.arith.specs.Trees.{run}
 use Rattle.answers.specs.Answers.{Answer, result, onResult}
 use Rattle.signals.specs.Sets.{inside, overlap}
 use Rattle.layout.specs.Records.{Join, and, or, records}
 use Rattle.layout.specs.Judgement.{verdict}
-use Rattle.layout.specs.Nodes.{ListedPolicy, ListedNode, nodes}
+use Rattle.layout.specs.Nodes.{ListedPolicy, nodes}
 
 -- some line's mask lies wholly inside the set
 unfoldable pub someLine : List ℕ → ℕ → Bool
@@ -26,18 +27,9 @@ unfoldable pub joined : Join → Bool → Bool → Bool
 joined and a b = a && b
 joined or a b = a || b
 
--- the one value that remains at the end
-unfoldable pub remaining : List Bool → Bool
-remaining [] = false
-remaining (b ∷ values) = b
-
--- what some nodes say of a set
-unfoldable pub reading : List ListedNode → ℕ → Bool
-reading ns set = remaining (run joined (policyValue set) ns [])
-
--- what the words of a sound listing say of a set
+-- what the words of a sound listing say of a set: the one value that remains at the end
 unfoldable pub says : List ℕ → ℕ → Bool
-says ws set = reading (nodes (records ws)) set
+says ws set = getD (run joined (policyValue set) (nodes (records ws)) []) 0 false
 
 -- the rod's answer: the listing's refusal, or yes or no
 unfoldable pub rodAnswer : List ℕ → ℕ → Answer Bool

@@ -11,7 +11,7 @@ use Rattle.layout.specs.Records.{Join, and, or, oneIf}
 use Rattle.layout.specs.Judgement.{SoFar, judged}
 use Rattle.layout.specs.Nodes.{ListedPolicy, leadingLines, nodes}
 use Rattle.layout.specs.Steps.{recordsFrom}
-use Rattle.rod.specs.Reading.{policyValue, joined, remaining, says}
+use Rattle.rod.specs.Reading.{policyValue, joined, says}
 
 -- values as bits of a number, the last in the lowest bit
 unfoldable pub bitsOf : List Bool → ℕ
@@ -66,4 +66,4 @@ pub record Underway (ws : List ℕ) (set at values : ℕ) : Type 0 where
   pub height : node .above .values ≡ length stack
   pub few : node .above .values ≤ node .above .policies
   pub atMost : node .above .policies ≤ 16
-  pub same : remaining (run joined (policyValue set) (nodes (recordsFrom ws at)) stack) ≡ says ws set
+  pub same : getD (run joined (policyValue set) (nodes (recordsFrom ws at)) stack) 0 false ≡ says ws set

@@ -15,7 +15,7 @@ use Rattle.layout.specs.Nodes.{ListedPolicy, nodes}
 use Rattle.layout.specs.WellFormed.{PolicyFits, WellFormed}
 use Rattle.layout.proofs.SoundNodes.{line-fits, sound-well-formed}
 use Rattle.layout.proofs.KeptLaws.{sound-judged}
-use Rattle.rod.specs.Reading.{policyValue, remaining, reading, says, rodAnswer}
+use Rattle.rod.specs.Reading.{policyValue, says, rodAnswer}
 use Rattle.peal.specs.Policies.{Policy, MinMax, Condition, policyAt}
 use Rattle.peal.specs.MasksDecide.{SignalsFit}
 use Rattle.arith.specs.Members.{Distinct}
@@ -83,7 +83,7 @@ module _ (listing : List ℕ) (p : ListedPolicy) (h : OnePolicy listing p) where
   minimal = subst (MinimalListing (h .bytes) (h .number)) (sym left-there) (minimal-listing (h .bytes) (h .number) (h .lent) (h .count) ran)
 
   pub known : Known listing p
-  unfolding says reading run remaining
+  unfolding says run
   known =
       let ps = minimal .book .policies in
       let c = minimal .condition in

@@ -14,7 +14,7 @@ use Rattle.peal.specs.declared.Sense.{Sense}
 use Rattle.text.specs.Text.{bytes, longer, parted, space, fields, is}
 use Rattle.text.specs.Numbers.{natural, number}
 use Rattle.text.specs.Expressions.{expression}
-use Rattle.text.specs.Forms.{Form, oldZero, policy, rule, exclusion, condition, operator, sense, barePolicy, fullPolicy, ruleLine, exclusionLine, conditionLine, formOf, form}
+use Rattle.text.specs.Forms.{Form, oldZero, policy, rule, exclusion, condition, operator, sense, formOf, form}
 use Rattle.arith.specs.Leaves.{leafCount}
 use Rattle.text.proofs.FieldLaws.{number-length, sense-length}
 use Rattle.text.proofs.MentionLaws.{expression-fits}
@@ -47,39 +47,21 @@ FewMentions (rule s v) = Unit {0}
 FewMentions (exclusion a b) = Unit {0}
 FewMentions (condition c t e) = leafCount e ≤ 16
 
-condition-fits : (t c e : List ℕ) → length t + length c + length e ≤ 124 → Finds FewMentions (conditionLine t c e)
-unfolding conditionLine
-condition-fits t c e h =
-    finds-then FewMentions (λ (z : ℤ). 1 ≤ length t) (number t) _ (finds-that (λ (z : ℤ). 1 ≤ length t) (number t) (λ z q. number-length t z q)) (λ z i.
-    finds-then FewMentions (λ (s : Sense). 1 ≤ length c) (sense c) _ (finds-that (λ (s : Sense). 1 ≤ length c) (sense c) (λ s q. sense-length c s q)) (λ s j.
-    finds-then FewMentions (λ (x : Expression). 8 * leafCount x ≤ length e + 6) (expression e) _ (expression-fits e) (λ x k. omega arith)))
-
--- the other forms have none
-bare-fits : (o : List ℕ) → Finds FewMentions (barePolicy o)
-unfolding barePolicy
-bare-fits o = finds-any FewMentions (operator o) _ (λ op. tt)
-
-full-fits : (o d : List ℕ) → Finds FewMentions (fullPolicy o d)
-unfolding fullPolicy
-full-fits o d = finds-any FewMentions (operator o) _ (λ op. finds-any FewMentions (number d) _ (λ z. tt))
-
-rule-fits : (s v : List ℕ) → Finds FewMentions (ruleLine s v)
-unfolding ruleLine
-rule-fits s v = finds-any FewMentions (natural s) _ (λ n. finds-any FewMentions (number v) _ (λ z. tt))
-
-exclusion-fits : (a b : List ℕ) → Finds FewMentions (exclusionLine a b)
-unfolding exclusionLine
-exclusion-fits a b = finds-any FewMentions (natural a) _ (λ m. finds-any FewMentions (natural b) _ (λ n. tt))
-
 fields-fit : (fs : List (List ℕ)) → span fs ≤ 129 → Finds FewMentions (formOf fs)
 unfolding span formOf
 fields-fit [] h = tt
 fields-fit (k ∷ []) h = finds-if FewMentions (is (bytes "o") k) (some oldZero) (λ e. tt)
-fields-fit (k ∷ a ∷ []) h = finds-if FewMentions (is (bytes "p") k) (barePolicy a) (λ e. bare-fits a)
+fields-fit (k ∷ o ∷ []) h = finds-if FewMentions (is (bytes "p") k) _ (λ e. finds-any FewMentions (operator o) _ (λ op. tt))
 fields-fit (k ∷ a ∷ b ∷ []) h =
-    finds-either FewMentions (is (bytes "p") k) (fullPolicy a b) _ (full-fits a b)
-    (finds-either FewMentions (is (bytes "r") k) (ruleLine a b) _ (rule-fits a b) (finds-if FewMentions (is (bytes "x") k) (exclusionLine a b) (λ e. exclusion-fits a b)))
-fields-fit (k ∷ a ∷ b ∷ e ∷ []) h = finds-if FewMentions (is (bytes "c") k) (conditionLine a b e) (λ q. condition-fits a b e (omega (arith, is-length (bytes "c") k q)))
+    finds-either FewMentions (is (bytes "p") k) _ _ (finds-any FewMentions (operator a) _ (λ op. finds-any FewMentions (number b) _ (λ z. tt)))
+    (finds-either FewMentions (is (bytes "r") k) _ _ (finds-any FewMentions (natural a) _ (λ n. finds-any FewMentions (number b) _ (λ z. tt)))
+    (finds-if FewMentions (is (bytes "x") k) _ (λ e. finds-any FewMentions (natural a) _ (λ m. finds-any FewMentions (natural b) _ (λ n. tt)))))
+fields-fit (k ∷ t ∷ c ∷ e ∷ []) h =
+    finds-if FewMentions (is (bytes "c") k) _ (λ q.
+    let room : length t + length c + length e ≤ 124 = omega (arith, is-length (bytes "c") k q) in
+    finds-then FewMentions (λ (z : ℤ). 1 ≤ length t) (number t) _ (finds-that (λ (z : ℤ). 1 ≤ length t) (number t) (λ z q. number-length t z q)) (λ z i.
+    finds-then FewMentions (λ (s : Sense). 1 ≤ length c) (sense c) _ (finds-that (λ (s : Sense). 1 ≤ length c) (sense c) (λ s q. sense-length c s q)) (λ s j.
+    finds-then FewMentions (λ (x : Expression). 8 * leafCount x ≤ length e + 6) (expression e) _ (expression-fits e) (λ x k. omega arith))))
 fields-fit (k ∷ a ∷ b ∷ e ∷ f ∷ fs) h = tt
 
 -- a line's form has at most 16 mentions

@@ -2,7 +2,7 @@
 use Prim.Native.Nat.{ℕ, zero, suc, _+_, _-_, _*_, _^_, _≤_, _<_}
 use mathlib.Core.Bool.{Bool, true, false, cond, not, _&&_}
 use mathlib.Core.List.{List, [], _∷_}
-use mathlib.Core.Option.{Option, none, some}
+use mathlib.Core.Option.{Option, none, some, Option·map}
 use mathlib.Core.Path.{_≡_, refl, _∙_}
 use native.Mathlib.Nat.{pow-le-pow-right, pow-suc, mul-le-mul-right}
 use native.Mathlib.Numerals.{add-one}
@@ -17,8 +17,8 @@ use mir.ValLaws.{toZ-pos, toZ-ofZ}
 use borrow.Author.Tests.{le-leb, lt-leb, eq-eqb, ne-eqb, leb-true}
 use Rattle.arith.proofs.Signed.{mag-sub}
 use Rattle.arith.proofs.Tests.{and-left, and-right}
-use Rattle.arith.specs.Options.{if_then_}
-use Rattle.text.specs.Numbers.{isDigit, withDigits, noLeadingZero, natural, positive, negative, number}
+use Rattle.arith.specs.Options.{_>>=_, if_then_}
+use Rattle.text.specs.Numbers.{isDigit, withDigits, noLeadingZero, natural, negated, number}
 use Rattle.text.specs.Expressions.{digitCount}
 
 -- ---- what was found under a test
@@ -151,18 +151,18 @@ unfolding number
 empty-no-number [] h = refl
 empty-no-number (b ∷ s) h = absurd (omega arith)
 
-pub minus-number : (s : List ℕ) → (length s ≡ 0 → ⊥) → getD s 0 0 ≡ 45 → number s ≡ negative (natural (take (length s - 1) (drop 1 s)))
+pub minus-number : (s : List ℕ) → (length s ≡ 0 → ⊥) → getD s 0 0 ≡ 45 → number s ≡ (natural (take (length s - 1) (drop 1 s)) >>= negated)
 unfolding number
 minus-number [] h e = absurd (h refl)
 minus-number (b ∷ s) h e = rw (eq-eqb b 45 e, take-all (suc (length s) - 1) s (omega arith))
 
-pub plain-number : (s : List ℕ) → (length s ≡ 0 → ⊥) → (getD s 0 0 ≡ 45 → ⊥) → number s ≡ positive (natural s)
+pub plain-number : (s : List ℕ) → (length s ≡ 0 → ⊥) → (getD s 0 0 ≡ 45 → ⊥) → number s ≡ Option·map pos (natural s)
 unfolding number
 plain-number [] h e = absurd (h refl)
 plain-number (b ∷ s) h e = rw (ne-eqb b 45 e)
 
-pub minus-some : (n : ℕ) → (n ≡ 0 → ⊥) → negative (some n) ≡ some (negℤ (pos n))
-unfolding negative
+pub minus-some : (n : ℕ) → (n ≡ 0 → ⊥) → negated n ≡ some (negℤ (pos n))
+unfolding negated
 minus-some zero z = absurd (z refl)
 minus-some (suc n) z = refl
 

@@ -51,51 +51,16 @@ senseWord AtMost = bytes ">="
 unfoldable pub sense : List ℕ → Option Sense
 sense f = cond (is (senseWord Above) f) (some Above) (if is (senseWord AtMost) f then some AtMost)
 
--- `p OP`
-unfoldable pub barePolicy : List ℕ → Option Form
-barePolicy o = do
-  op ← operator o
-  some (policy op none)
-
--- `p OP D`
-unfoldable pub fullPolicy : (o d : List ℕ) → Option Form
-fullPolicy o d = do
-  op ← operator o
-  default ← number d
-  some (policy op (some default))
-
--- `r S V`
-unfoldable pub ruleLine : (s v : List ℕ) → Option Form
-ruleLine s v = do
-  signal ← natural s
-  score ← number v
-  some (rule signal score)
-
--- `x A B`
-unfoldable pub exclusionLine : (a b : List ℕ) → Option Form
-exclusionLine a b = do
-  first ← natural a
-  second ← natural b
-  some (exclusion first second)
-
--- `c T < E`, `c T >= E`
-unfoldable pub conditionLine : (t c e : List ℕ) → Option Form
-conditionLine t c e = do
-  threshold ← number t
-  comparison ← sense c
-  asked ← expression e
-  some (condition comparison threshold asked)
-
--- the form by the fields
+-- the form by the fields: `o`; `p OP`; `p OP D`, `r S V` or `x A B`; `c T < E` or `c T >= E`
 unfoldable pub formOf : List (List ℕ) → Option Form
 formOf [] = none
 formOf (k ∷ []) = if is (bytes "o") k then some oldZero
-formOf (k ∷ a ∷ []) = if is (bytes "p") k then barePolicy a
+formOf (k ∷ o ∷ []) = if is (bytes "p") k then do some (policy (← operator o) none)
 formOf (k ∷ a ∷ b ∷ []) =
-    cond (is (bytes "p") k) (fullPolicy a b)
-    (cond (is (bytes "r") k) (ruleLine a b)
-    (if is (bytes "x") k then exclusionLine a b))
-formOf (k ∷ a ∷ b ∷ e ∷ []) = if is (bytes "c") k then conditionLine a b e
+    cond (is (bytes "p") k) (do some (policy (← operator a) (some (← number b))))
+    (cond (is (bytes "r") k) (do some (rule (← natural a) (← number b)))
+    (if is (bytes "x") k then do some (exclusion (← natural a) (← natural b))))
+formOf (k ∷ t ∷ c ∷ e ∷ []) = if is (bytes "c") k then do threshold ← number t; some (condition (← sense c) threshold (← expression e))
 formOf (k ∷ a ∷ b ∷ e ∷ f ∷ fs) = none
 
 -- the form of a line's bytes; nothing where it has none

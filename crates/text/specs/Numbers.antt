@@ -2,11 +2,11 @@
 use Prim.Native.Nat.{ℕ, zero, suc, _+_, _-_, _*_}
 use mathlib.Core.Bool.{Bool, true, cond, not, _&&_}
 use mathlib.Core.List.{List, [], _∷_}
-use mathlib.Core.Option.{Option, none, some}
+use mathlib.Core.Option.{Option, none, some, Option·map}
 use lib.Dec.{leb, eqb}
 use lib.IntN.{ℤ, pos, negsuc}
 use lib.ListN.{length}
-use Rattle.arith.specs.Options.{if_then_}
+use Rattle.arith.specs.Options.{_>>=_, if_then_}
 
 -- the digit `0`
 abbrev pub zeroDigit : ℕ
@@ -31,17 +31,12 @@ noLeadingZero (b ∷ c ∷ s) = not (eqb b zeroDigit)
 unfoldable pub natural : List ℕ → Option ℕ
 natural s = if leb 1 (length s) && leb (length s) 6 && noLeadingZero s then withDigits 0 s
 
--- what a number without `-` means, and what one with `-` means: no `-0`
-unfoldable pub positive : Option ℕ → Option ℤ
-positive none = none
-positive (some n) = some (pos n)
-
-unfoldable pub negative : Option ℕ → Option ℤ
-negative none = none
-negative (some zero) = none
-negative (some (suc n)) = some (negsuc n)
+-- what digits mean after a `-`: no `-0`
+unfoldable pub negated : ℕ → Option ℤ
+negated zero = none
+negated (suc n) = some (negsuc n)
 
 -- the value of a spelling in hundredths: an optional `-`, byte 45, and digits
 unfoldable pub number : List ℕ → Option ℤ
 number [] = none
-number (b ∷ s) = cond (eqb b 45) (negative (natural s)) (positive (natural (b ∷ s)))
+number (b ∷ s) = cond (eqb b 45) (natural s >>= negated) (Option·map pos (natural (b ∷ s)))

@@ -3,10 +3,10 @@ use Prim.Native.Nat.{ℕ}
 use mathlib.Core.Bool.{Bool, true, false}
 use mathlib.Core.List.{List, [], _∷_, map}
 use lib.IntN.{ℤ}
-use Rattle.arith.specs.Trees.{postfix, mapTree}
+use Rattle.arith.specs.Trees.{Tree, postfix, mapTree}
 use Rattle.signals.specs.Sets.{setOf}
 use Rattle.layout.specs.Records.{Record, Join, and, or}
-use Rattle.layout.specs.Nodes.{ListedPolicy, ListedTree, listing}
+use Rattle.layout.specs.Nodes.{ListedPolicy, listing}
 use Rattle.peal.specs.Policies.{Policy, MinMax, smaller, larger, Exclusion, Condition, Book, policyAt, maskOf}
 use Rattle.peal.specs.Score.{scaled, meets}
 use Rattle.peal.specs.Lines.{lines}
@@ -44,7 +44,7 @@ listed s t p =
     record { quiet = quiet s t p; turned = turned s (p .operator); mask = maskOf (p .rules); lines = map maskOf sets }
 
 -- the tree of a condition
-unfoldable pub translated : List Policy → Condition → ListedTree
+unfoldable pub translated : List Policy → Condition → Tree Join ListedPolicy
 translated ps c = mapTree (joinOf (c .sense)) (λ n. listed (c .sense) (c .threshold) (policyAt ps n)) (c .expression)
 
 -- the mask of an excluded pair

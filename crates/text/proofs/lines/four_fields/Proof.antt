@@ -6,7 +6,7 @@ use mir.Val.{toZ, ofZ}
 use borrow.Author.Needs.{needs}
 use denote.Ref.{now}
 use Rattle.text.specs.Text.{bytes}
-use Rattle.text.specs.Forms.{conditionLine, formOf}
+use Rattle.text.specs.Forms.{formOf}
 use Rattle.text.specs.Spelling.{numberMeaning, senseMeaning}
 use Rattle.text.proofs.WordLaws.{is-length}
 use Rattle.text.proofs.FieldLaws.{number-length, sense-length}
@@ -14,14 +14,14 @@ use Rattle.text.proofs.lines.four_fields.Statement.{statement}
 use Rattle.text.proofs.lines.four_fields.Tie as tie
 
 returns : tie.Need-returns
-unfolding formOf conditionLine
+unfolding formOf
 returns c =
     let read = c .before .before in
     let k = read .before in
     λ line h l. (rw (sym (k .before .is-word .ensures) ∙ k .if1 .taken, sym (read .read-number .ensures) ∙ ap numberMeaning (c .enum-told .given .1)), tt)
 
 returns-2 : tie.Need-returns-2
-unfolding formOf conditionLine
+unfolding formOf
 returns-2 c =
     let read-2 = c .before .before in
     let found = read-2 .before .before in
@@ -33,7 +33,7 @@ returns-2 c =
     )
 
 returns-3 : tie.Need-returns-3
-unfolding formOf conditionLine
+unfolding formOf
 returns-3 c =
     let found-2 = c .before in
     let read-2 = found-2 .before .before in

@@ -3,20 +3,20 @@ use mathlib.Core.Path.{_≡_, sym, ap, _∙_}
 use mir.Syntax.{w32}
 use mir.Val.{toZ, ofZ}
 use borrow.Author.Needs.{needs}
-use Rattle.text.specs.Forms.{fullPolicy, ruleLine, exclusionLine, formOf}
+use Rattle.text.specs.Forms.{formOf}
 use Rattle.text.specs.Spelling.{naturalMeaning, numberMeaning, operatorMeaning}
 use Rattle.text.proofs.lines.three_fields.Statement.{statement}
 use Rattle.text.proofs.lines.three_fields.Tie as tie
 
 returns : tie.Need-returns
-unfolding formOf fullPolicy
+unfolding formOf
 returns c =
     let read = c .before .before in
     let p = read .before in
     λ line. (rw (sym (p .before .is-word .ensures) ∙ p .if1 .taken, sym (read .read-operator .ensures) ∙ ap operatorMeaning (c .enum-told .given .1)), tt)
 
 returns-2 : tie.Need-returns-2
-unfolding formOf fullPolicy
+unfolding formOf
 returns-2 c =
     let read-2 = c .before .before in
     let found = read-2 .before .before in
@@ -28,7 +28,7 @@ returns-2 c =
     )
 
 returns-3 : tie.Need-returns-3
-unfolding formOf fullPolicy
+unfolding formOf
 returns-3 c =
     let found-2 = c .before in
     let read-2 = found-2 .before .before in
@@ -42,7 +42,7 @@ returns-3 c =
     )
 
 returns-4 : tie.Need-returns-4
-unfolding formOf ruleLine
+unfolding formOf
 returns-4 c =
     let read = c .before .before in
     let r = read .before in
@@ -53,7 +53,7 @@ returns-4 c =
     )
 
 returns-5 : tie.Need-returns-5
-unfolding formOf ruleLine
+unfolding formOf
 returns-5 c =
     let read-2 = c .before .before in
     let found = read-2 .before .before in
@@ -66,7 +66,7 @@ returns-5 c =
     )
 
 returns-6 : tie.Need-returns-6
-unfolding formOf ruleLine
+unfolding formOf
 returns-6 c =
     let found-2 = c .before in
     let read-2 = found-2 .before .before in
@@ -81,7 +81,7 @@ returns-6 c =
     )
 
 returns-7 : tie.Need-returns-7
-unfolding formOf exclusionLine
+unfolding formOf
 returns-7 c =
     let read = c .before .before in
     let x = read .before in
@@ -93,7 +93,7 @@ returns-7 c =
     )
 
 returns-8 : tie.Need-returns-8
-unfolding formOf exclusionLine
+unfolding formOf
 returns-8 c =
     let read-2 = c .before .before in
     let found = read-2 .before .before in
@@ -107,7 +107,7 @@ returns-8 c =
     )
 
 returns-9 : tie.Need-returns-9
-unfolding formOf exclusionLine
+unfolding formOf
 returns-9 c =
     let found-2 = c .before in
     let read-2 = found-2 .before .before in

@@ -1,20 +1,20 @@
 -- `text::lines::two_fields`: the tests are those of the definition, in its order.
 use mathlib.Core.Path.{sym, ap, _∙_}
 use borrow.Author.Needs.{needs}
-use Rattle.text.specs.Forms.{barePolicy, formOf}
+use Rattle.text.specs.Forms.{formOf}
 use Rattle.text.specs.Spelling.{operatorMeaning}
 use Rattle.text.proofs.lines.two_fields.Statement.{statement}
 use Rattle.text.proofs.lines.two_fields.Tie as tie
 
 returns : tie.Need-returns
-unfolding formOf barePolicy
+unfolding formOf
 returns c =
     let read = c .before .before in
     let p = read .before in
     λ line. (rw (sym (p .before .is-word .ensures) ∙ p .if1 .taken, sym (read .read-operator .ensures) ∙ ap operatorMeaning (c .enum-told .given .1)), tt)
 
 returns-2 : tie.Need-returns-2
-unfolding formOf barePolicy
+unfolding formOf
 returns-2 c =
     let found = c .before in
     let read = found .before .before in

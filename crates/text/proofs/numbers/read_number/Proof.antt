@@ -1,12 +1,14 @@
 -- `text::numbers::read_number`: by the first byte, what the digits mean; below a million, -n fits 32 bits.
 use Prim.Native.Nat.{ℕ, _-_}
 use mathlib.Core.List.{List}
-use mathlib.Core.Option.{some}
+use mathlib.Core.Option.{some, Option·map}
 use mathlib.Core.Path.{_≡_, sym, ap, _∙_}
 use borrow.Author.Needs.{needs}
 use denote.Ref.{now}
 use lib.ListN.{length, take, drop}
-use Rattle.text.specs.Numbers.{natural, positive, negative, number}
+use lib.IntN.{pos}
+use Rattle.arith.specs.Options.{_>>=_}
+use Rattle.text.specs.Numbers.{natural, negated, number}
 use Rattle.text.specs.Spelling.{naturalMeaning}
 use Rattle.text.proofs.NumberLaws.{natural-small, empty-no-number, minus-number, plain-number, minus-some, pos-fits, pos-read, minus-fits, minus-read}
 use Rattle.text.proofs.numbers.read_number.Statement.{statement}
@@ -20,10 +22,10 @@ abbrev tail : tie.After-shared-slice-known2 → List ℕ
 tail c = take (length (whole c) - 1) (drop 1 (whole c))
 
 -- without a `-`, and with one
-plain : (c : tie.Then2) → number (whole (c .before)) ≡ positive (natural (whole (c .before)))
+plain : (c : tie.Then2) → number (whole (c .before)) ≡ Option·map pos (natural (whole (c .before)))
 plain c = plain-number _ (c .before .before .if1 .left) (c .if2 .taken)
 
-minus : (c : tie.Else2) → number (whole (c .before)) ≡ negative (natural (tail (c .before)))
+minus : (c : tie.Else2) → number (whole (c .before)) ≡ (natural (tail (c .before)) >>= negated)
 minus c = minus-number _ (c .before .before .if1 .left) (c .if2 .left)
 
 -- the digits' number without a `-`, and after one
@@ -37,31 +39,29 @@ returns : tie.Need-returns
 returns c = sym (empty-no-number _ (c .if1 .taken))
 
 returns-2 : tie.Need-returns-2
-unfolding positive
 returns-2 c =
     let read = c .before .before in
-    sym (plain (read .before) ∙ ap positive (sym (read .read-natural .ensures) ∙ ap naturalMeaning (c .enum-told .given .1)))
+    sym (plain (read .before) ∙ ap (Option·map pos) (sym (read .read-natural .ensures) ∙ ap naturalMeaning (c .enum-told .given .1)))
 
 cast-t9 : tie.Need-cast-t9
 cast-t9 c = pos-fits _ (natural-small _ _ (value (c .before)))
 
 returns-3 : tie.Need-returns-3
-unfolding positive
 returns-3 c =
     let e = value (c .before) in
-    ap some (pos-read _ (natural-small _ _ e)) ∙ sym (plain (c .before .before .before .before) ∙ ap positive e)
+    ap some (pos-read _ (natural-small _ _ e)) ∙ sym (plain (c .before .before .before .before) ∙ ap (Option·map pos) e)
 
 returns-4 : tie.Need-returns-4
-unfolding negative
+unfolding negated
 returns-4 c =
     let read = c .before .before in
-    sym (minus (read .before .before) ∙ ap negative (sym (read .read-natural2 .ensures) ∙ ap naturalMeaning (c .enum-told2 .given .1)))
+    sym (minus (read .before .before) ∙ ap (_>>= negated) (sym (read .read-natural2 .ensures) ∙ ap naturalMeaning (c .enum-told2 .given .1)))
 
 returns-5 : tie.Need-returns-5
-unfolding negative
+unfolding negated
 returns-5 c =
     let s = c .before .before in
-    sym (minus (s .before .before .before .before) ∙ ap negative (size s ∙ ap some (c .if3 .taken)))
+    sym (minus (s .before .before .before .before) ∙ ap (_>>= negated) (size s ∙ ap some (c .if3 .taken)))
 
 cast-t14 : tie.Need-cast-t14
 cast-t14 c = pos-fits _ (natural-small _ _ (size (c .before .before)))
@@ -72,7 +72,7 @@ sub-t15 c = minus-fits _ (natural-small _ _ (size (c .before .before)))
 returns-6 : tie.Need-returns-6
 returns-6 c =
     let s = c .before .before in
-    ap some (minus-read _ (natural-small _ _ (size s))) ∙ sym (minus (s .before .before .before .before) ∙ ap negative (size s) ∙ minus-some _ (c .if3 .left))
+    ap some (minus-read _ (natural-small _ _ (size s))) ∙ sym (minus (s .before .before .before .before) ∙ ap (_>>= negated) (size s) ∙ minus-some _ (c .if3 .left))
 
 -- the other needs are found by search
 pub read-number-spec : {M : Type 1} → statement M
