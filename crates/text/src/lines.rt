@@ -48,23 +48,23 @@ pub enum LineRead {
 fn one_field(kind: &[u8]) -> LineRead
     ensures { λ r. ⌜ MeansAnywhere r (formOf (now (kind .entry) ∷ [])) ⌝ }
 {
-    if is_word(kind, b"o") {
-        return LineRead::Good(Line::OldZero);
+    if !is_word(kind, b"o") {
+        return LineRead::NoForm;
     }
-    LineRead::NoForm
+    LineRead::Good(Line::OldZero)
 }
 
 // `p OP`.
 fn two_fields(kind: &[u8], second: &[u8]) -> LineRead
     ensures { λ r. ⌜ MeansAnywhere r (formOf (now (kind .entry) ∷ now (second .entry) ∷ [])) ⌝ }
 {
-    if is_word(kind, b"p") {
-        let OperatorRead::Is(operator) = read_operator(second) else {
-            return LineRead::NoForm;
-        };
-        return LineRead::Good(Line::BarePolicy { operator });
+    if !is_word(kind, b"p") {
+        return LineRead::NoForm;
     }
-    LineRead::NoForm
+    let OperatorRead::Is(operator) = read_operator(second) else {
+        return LineRead::NoForm;
+    };
+    LineRead::Good(Line::BarePolicy { operator })
 }
 
 // `p OP D`, `r S V`, or `x A B`.
@@ -108,20 +108,20 @@ fn three_fields(kind: &[u8], second: &[u8], third: &[u8]) -> LineRead
 fn four_fields(kind: &[u8], second: &[u8], third: &[u8], from: usize) -> LineRead
     ensures { λ r. ⌜ FourMean (now (kind .entry)) (now (second .entry)) (now (third .entry)) from r ⌝ }
 {
-    if is_word(kind, b"c") {
-        let NumberRead::Number(threshold) = read_number(second) else {
-            return LineRead::NoForm;
-        };
-        let SenseRead::Is(sense) = read_sense(third) else {
-            return LineRead::NoForm;
-        };
-        return LineRead::Good(Line::Condition {
-            sense,
-            threshold,
-            from,
-        });
+    if !is_word(kind, b"c") {
+        return LineRead::NoForm;
     }
-    LineRead::NoForm
+    let NumberRead::Number(threshold) = read_number(second) else {
+        return LineRead::NoForm;
+    };
+    let SenseRead::Is(sense) = read_sense(third) else {
+        return LineRead::NoForm;
+    };
+    LineRead::Good(Line::Condition {
+        sense,
+        threshold,
+        from,
+    })
 }
 
 // A line without its end, by how many fields it has. A condition's expression begins after six bytes at least, which
