@@ -47,12 +47,12 @@ policy-in-range ps ranges n = each-default PolicyInRange ps n emptyPolicy ranges
 -- the tree of an expression, whatever record stands for a mention
 module _ (s : Sense) (recordOf : ℕ → ListedPolicy) where
   pub tree-policies : (e : Expression) → leafCount (mapTree (joinOf s) recordOf e) ≡ leafCount e
-  unfolding mapTree leafCount
+  unfolding mapTree treeValue leafCount
   tree-policies (leaf n) = refl
   tree-policies (join m a b) = ap₂ (λ (x y : ℕ). x + y) (tree-policies a) (tree-policies b)
 
   pub tree-fits : ((n : ℕ) → PolicyFits (recordOf n)) → (e : Expression) → TreeFits (mapTree (joinOf s) recordOf e)
-  unfolding mapTree
+  unfolding mapTree treeValue
   tree-fits fits (leaf n) = fits n
   tree-fits fits (join m a b) = (tree-fits fits a, tree-fits fits b)
 

@@ -8,7 +8,7 @@ use borrow.Author.Tests.{le-leb}
 use Rattle.answers.specs.Answers.{Answer, result, refused, onResult}
 use Rattle.answers.proofs.Results.{no-refusal, result-is}
 use Rattle.arith.specs.Members.{Each}
-use Rattle.arith.specs.Trees.{leaf, join, postfix, mapTree}
+use Rattle.arith.specs.Trees.{leaf, join, postfix, mapTree, treeValue}
 use Rattle.arith.proofs.Tests.{clash}
 use Rattle.layout.specs.Records.{words, records}
 use Rattle.layout.specs.Nodes.{nodes, excluded}
@@ -78,7 +78,7 @@ module _ {A B : Type 0} {R : A → B → Type 0} where
 
 module _ (ps : List Policy) (ranges : Each PolicyInRange ps) (c : Condition) where
   stand-for : (e : Expression) → Forall₂ (StandsFor ps c) (postfix e) (postfix (tree ps (c .sense) (c .threshold) e))
-  unfolding postfix mapTree listed
+  unfolding postfix mapTree treeValue listed
   stand-for (leaf n) = Forall₂·cons (masks-minimal (policyAt ps n) (c .threshold) (signals-fit (policyAt ps n) (policy-in-range ps ranges n))) Forall₂·nil
   stand-for (join m a b) = one-by-one (stand-for a) (one-by-one (stand-for b) (Forall₂·cons refl Forall₂·nil))
 
@@ -123,9 +123,9 @@ demand-3 bytes number lent left answer f ran =
     record {
       count = n;
       compiles = records-returned answer n (ran .returning ∙ e);
-      same = λ set rod logger both.
+      same = λ set rod logger reading scoring.
           let (b, r, l) = compiled-agreement bytes number set n lent e in
-          say-same b rod logger (both .reading ∙ ap (λ (ws : List ℕ). rodAnswer (compiledListing n ws) set) (ran .leaving) ∙ r) (both .scoring ∙ l);
+          say-same b rod logger (reading ∙ ap (λ (ws : List ℕ). rodAnswer (compiledListing n ws) set) (ran .leaving) ∙ r) (scoring ∙ l);
       traverse = λ sets answers returned after equal went.
           traverse-says bytes number (compiledListing n left) (λ set.
           let (b, r, l) = compiled-agreement bytes number set n lent e in

@@ -11,7 +11,7 @@ use lib.Pow.{pow-pos}
 use borrow.Author.Tests.{eq-eqb, ne-eqb}
 use Rattle.arith.specs.Lists.{keep, nonEmpty}
 use Rattle.arith.specs.Members.{Among, Each, Distinct}
-use Rattle.arith.proofs.Distinct.{isIn, each-absent, distinct-inside}
+use Rattle.arith.proofs.Distinct.{isIn, Other, each-absent, distinct-order, order-distinct, distinct-inside}
 use Rattle.arith.proofs.Each.{each-map, map-same}
 use Rattle.arith.proofs.InOrder.{order-then, order-map}
 use Rattle.arith.proofs.Members.{each-in, each-out}
@@ -140,8 +140,9 @@ module _ (p : Policy) (t : ℤ) (fit : SignalsFit (p .rules)) where
 
   masks-once : Distinct (map maskOf sets)
   masks-once =
-      order-then (λ (m k : ℕ). told m ≡ told k → ⊥) (λ (m k : ℕ). m ≡ k → ⊥) (λ m k differ e. differ (ap told e)) (map maskOf sets)
-      (order-map (λ (X Y : List Rule). X ≡ Y → ⊥) told (map maskOf sets) (rw sets-told (lines-are-minimal (p .operator) t (p .rules) (fit .different) .once)))
+      order-distinct (map maskOf sets)
+      (order-then (λ (m k : ℕ). Other (told m) (told k)) Other (λ m k differ e. differ (ap told e)) (map maskOf sets)
+      (order-map Other told (map maskOf sets) (rw sets-told (distinct-order sets (lines-are-minimal (p .operator) t (p .rules) (fit .different) .once)))))
 
   pub masks-minimal : MinimalMasks p t (map maskOf sets)
   masks-minimal =

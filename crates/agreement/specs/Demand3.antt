@@ -38,11 +38,6 @@ pub record ListingFits (bytes : List ℕ) (number : ℕ) (lent : List ℕ) : Typ
 
 -- ---- the calls, each by its promise about what it returned: of compiling `CompilingRan`, of a traverse `TraverseRan`
 
--- `rod::decide` is handed a listing and a signal set, and `score::decide` the book and the same set
-pub record BothRan (bytes : List ℕ) (number set : ℕ) (listing : List ℕ) (rod : RodDecision) (logger : LoggerDecision) : Type 0 where
-  pub reading : rodMeaning rod ≡ rodAnswer listing set
-  pub scoring : scoreMeaning logger ≡ scoredAnswer bytes number set
-
 -- neither refuses, and the rod says yes exactly if the logger does
 pub data SaySame : RodDecision → LoggerDecision → Type 0 where
   bothYes : SaySame RodYes LoggerYes
@@ -92,7 +87,7 @@ pub record Agreed (bytes : List ℕ) (number : ℕ) (left : List ℕ) (answer : 
   pub count : ℕ
   pub compiles : answer ≡ Records count
   pub same : (set : ℕ) (rod : RodDecision) (logger : LoggerDecision)
-      → BothRan bytes number set (compiledListing count left) rod logger → SaySame rod logger
+      → rodMeaning rod ≡ rodAnswer (compiledListing count left) set → scoreMeaning logger ≡ scoredAnswer bytes number set → SaySame rod logger
   pub traverse : (sets lent : List ℕ) (returned : Traversed) (answers : List ℕ) → length sets ≡ length lent
       → TraverseRan (compiledListing count left) sets lent returned answers → TraverseSays bytes number sets returned answers
   pub minimal : MinimalListing bytes number (compiledListing count left)

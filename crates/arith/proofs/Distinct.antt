@@ -10,6 +10,7 @@ use lib.ListN.{length}
 use borrow.Author.Tests.{eqb-true, eqb-false, eq-eqb, ne-eqb, not-true}
 use Rattle.arith.specs.Lists.{exists, keep}
 use Rattle.arith.specs.Members.{Among, Each, Distinct}
+use Rattle.arith.specs.InOrder.{InOrder}
 use Rattle.arith.proofs.Each.{each-more}
 use Rattle.arith.proofs.EveryExists.{exists-in, exists-out}
 use Rattle.arith.proofs.InOrder.{order-inside, order-reordered}
@@ -28,11 +29,19 @@ module _ {A : Type 0} where
   abbrev pub Other : A → A → Type 0
   Other x y = x ≡ y → ⊥
 
+  pub distinct-order : (X : List A) → Distinct X → InOrder Other X
+  distinct-order [] h = tt
+  distinct-order (x ∷ X) h = (h .0, distinct-order X (h .1))
+
+  pub order-distinct : (X : List A) → InOrder Other X → Distinct X
+  order-distinct [] h = tt
+  order-distinct (x ∷ X) h = (h .0, order-distinct X (h .1))
+
   pub distinct-inside : {Y X : List A} → Sublistᴰ Y X → Distinct X → Distinct Y
-  distinct-inside s h = order-inside Other s h
+  distinct-inside {Y} {X} s h = order-distinct Y (order-inside Other s (distinct-order X h))
 
   pub distinct-reordered : {X Y : List A} → List·Permᴰ X Y → Distinct X → Distinct Y
-  distinct-reordered d h = order-reordered Other (λ x y other e. other (sym e)) d h
+  distinct-reordered {X} {Y} d h = order-distinct Y (order-reordered Other (λ x y other e. other (sym e)) d (distinct-order X h))
 
   pub distinct-more : (l : List A) (x : A) → Distinct l → Each (Other x) l → Distinct (l ++ (x ∷ []))
   distinct-more [] x d h = (tt, tt)

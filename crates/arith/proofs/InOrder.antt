@@ -3,7 +3,8 @@ use Prim.Native.Nat.{ℕ, zero, suc, _≤_, _<_}
 use mathlib.Core.List.{List, [], _∷_, map, Sublistᴰ, Sublistᴰ·slnil, Sublistᴰ·cons, Sublistᴰ·cons-cons, List·Permᴰ, List·Permᴰ·nil, List·Permᴰ·cons, List·Permᴰ·swap, List·Permᴰ·trans}
 use native.Mathlib.Omega.{arith}
 use Rattle.arith.specs.Lists.{below}
-use Rattle.arith.specs.Members.{Each, InOrder}
+use Rattle.arith.specs.Members.{Each}
+use Rattle.arith.specs.InOrder.{InOrder}
 use Rattle.arith.proofs.Each.{each-map}
 use Rattle.arith.proofs.Members.{each-in, each-out}
 use Rattle.arith.proofs.Sublists.{each-inside}

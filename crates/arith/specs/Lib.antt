@@ -1,5 +1,6 @@
 pub mod Lists
 pub mod Members
+pub mod InOrder
 pub mod Options
 pub mod Trees
 pub mod Leaves

@@ -12,11 +12,7 @@ module _ {A : Type 0} where
   Each P [] = Unit {0}
   Each P (x ∷ xs) = P x × Each P xs
 
-  -- each member stands to every later one as asked
-  abbrev pub InOrder : (A → A → Type 0) → List A → Type 0
-  InOrder R [] = Unit {0}
-  InOrder R (x ∷ xs) = Each (R x) xs × InOrder R xs
-
   -- no two are equal
   abbrev pub Distinct : List A → Type 0
-  Distinct xs = InOrder (λ (x later : A). x ≡ later → ⊥) xs
+  Distinct [] = Unit {0}
+  Distinct (x ∷ xs) = Each (λ (y : A). x ≡ y → ⊥) xs × Distinct xs

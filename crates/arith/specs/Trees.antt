@@ -17,12 +17,6 @@ module _ {J L : Type 0} where
   postfix (leaf l) = value l ∷ []
   postfix (join j a b) = postfix a ++ (postfix b ++ (joining j ∷ []))
 
-module _ {J L M K : Type 0} (onJoin : J → K) (onLeaf : L → M) where
-  -- a tree of the same shape
-  unfoldable pub mapTree : Tree J L → Tree K M
-  mapTree (leaf l) = leaf (onLeaf l)
-  mapTree (join j a b) = join (onJoin j) (mapTree a) (mapTree b)
-
 module _ {J L A : Type 0} (onJoin : J → A → A → A) (onLeaf : L → A) where
   -- the value of a tree, from what a leaf is worth and what a join makes of two values
   unfoldable pub treeValue : Tree J L → A
@@ -40,3 +34,7 @@ module _ {J L A : Type 0} (onJoin : J → A → A → A) (onLeaf : L → A) wher
   run [] values = values
   run (value l ∷ ns) values = run ns (onLeaf l ∷ values)
   run (joining j ∷ ns) values = run ns (joinedLast j values)
+
+-- a tree of the same shape
+unfoldable pub mapTree : {J K L M : Type 0} → (J → K) → (L → M) → Tree J L → Tree K M
+mapTree onJoin onLeaf t = treeValue (λ j. join (onJoin j)) (λ l. leaf (onLeaf l)) t

@@ -8,7 +8,7 @@ use native.Mathlib.Omega.{arith}
 use lib.IntN.{ℤ}
 use lib.ListN.{length, getD, drop, length-map, List·getD-map}
 use lib.Seq.{drop-cons}
-use Rattle.arith.specs.Trees.{leaf, join, Node, value, joining, postfix, mapTree}
+use Rattle.arith.specs.Trees.{leaf, join, Node, value, joining, postfix, mapTree, treeValue}
 use Rattle.arith.proofs.Order.{le-or-lt}
 use Rattle.layout.specs.Nodes.{ListedNode}
 use Rattle.peal.specs.Policies.{Policy, MinMax, smaller, Expression, Condition, Book, policyAt, maskOf}
@@ -28,7 +28,7 @@ use Rattle.compiler.proofs.MentionLaws.{kept-few}
 -- the nodes of the listing are those of the expression
 module _ (b : Book) (c : Condition) where
   listed-tree : (e : Expression) → postfix (mapTree (joinOf (c .sense)) (λ n. listed (c .sense) (c .threshold) (policyAt (b .policies) n)) e) ≡ map (listedNode b c) (postfix e)
-  unfolding postfix mapTree listedNode
+  unfolding postfix mapTree treeValue listedNode
   listed-tree (leaf n) = refl
   listed-tree (join m x y) =
       rw (

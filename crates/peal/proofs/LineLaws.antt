@@ -7,7 +7,9 @@ use lib.IntN.{ℤ}
 use lib.ListN.{length}
 use lib.Pow.{pow-mono}
 use Rattle.arith.specs.Lists.{below, nonEmpty, subsets}
-use Rattle.arith.specs.Members.{Distinct, InOrder}
+use Rattle.arith.specs.Members.{Distinct}
+use Rattle.arith.specs.InOrder.{InOrder}
+use Rattle.arith.proofs.Distinct.{Other, order-distinct}
 use Rattle.arith.proofs.InOrder.{order-inside, order-then, order-map, below-order}
 use Rattle.arith.proofs.Keep.{keep-few}
 use Rattle.arith.proofs.Reordering.{length-reordered}
@@ -79,7 +81,7 @@ lines-are-minimal op t rules distinct =
     record {
       exactly = λ X. rw (lines-minimal op t rules) (among-minimal (has op t) (ranked op rules) X);
       once =
-          order-then (LessSum op rules) (λ (X Y : List Rule). X ≡ Y → ⊥) (λ X Y less e. omega (arith, less, ap (rankSum op rules) e))
-          (lines op t rules) (lines-fall op rules distinct t);
+          order-distinct (lines op t rules)
+          (order-then (LessSum op rules) Other (λ X Y less e. omega (arith, less, ap (rankSum op rules) e)) (lines op t rules) (lines-fall op rules distinct t));
       falling = lines-fall op rules distinct t;
     }

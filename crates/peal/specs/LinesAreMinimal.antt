@@ -6,7 +6,8 @@ use mathlib.Core.Logic.{_↔_}
 use mathlib.Core.Path.{_≡_}
 use lib.IntN.{ℤ}
 use Rattle.arith.specs.Lists.{nonEmpty}
-use Rattle.arith.specs.Members.{Among, InOrder, Distinct}
+use Rattle.arith.specs.Members.{Among, Distinct}
+use Rattle.arith.specs.InOrder.{InOrder}
 use Rattle.peal.specs.Policies.{Rule}
 use Rattle.peal.specs.Ranking.{ranked}
 use Rattle.peal.specs.Ranks.{rankSum}

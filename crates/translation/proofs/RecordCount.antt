@@ -6,7 +6,7 @@ use native.Mathlib.Nat.{mul-le-mul-right}
 use native.Mathlib.Omega.{arith}
 use lib.IntN.{ℤ}
 use lib.ListN.{length, length-append, length-map}
-use Rattle.arith.specs.Trees.{Tree, leaf, join, value, joining, postfix, mapTree}
+use Rattle.arith.specs.Trees.{Tree, leaf, join, value, joining, postfix, mapTree, treeValue}
 use Rattle.arith.proofs.Each.{each-default}
 use Rattle.layout.specs.Records.{Join}
 use Rattle.layout.specs.Nodes.{ListedPolicy, ListedNode, lineRecords, nodeRecords, exclusionRecords, listing}
@@ -41,7 +41,7 @@ count-append (joining j ∷ ns) ms = omega (arith, count-append ns ms)
 -- a tree whose policies have at most m lines each
 module _ {J L : Type 0} (onJoin : J → Join) (onLeaf : L → ListedPolicy) (m : ℕ) (few : (l : L) → length (onLeaf l .lines) ≤ m) where
   count-tree : (t : Tree J L) → recordCount (postfix (mapTree onJoin onLeaf t)) + 1 ≤ leafCount (mapTree onJoin onLeaf t) * (m + 2)
-  unfolding postfix mapTree leafCount
+  unfolding postfix mapTree treeValue leafCount
   count-tree (leaf l) = omega (arith, few l)
   count-tree (join j a b) =
       let A = postfix (mapTree onJoin onLeaf a) in

@@ -1,6 +1,6 @@
 -- What a condition becomes in a listing (document 01, "From condition to listing"; change request 1 for the excluded pairs).
 use Prim.Native.Nat.{ℕ}
-use mathlib.Core.Bool.{Bool, true, false}
+use mathlib.Core.Bool.{Bool, not}
 use mathlib.Core.List.{List, [], _∷_, map}
 use lib.IntN.{ℤ}
 use Rattle.arith.specs.Trees.{Tree, postfix, mapTree}
@@ -9,9 +9,9 @@ use Rattle.layout.specs.Records.{Record, Join, and, or}
 use Rattle.layout.specs.Nodes.{ListedPolicy, listing}
 use Rattle.peal.specs.Policies.{Policy, MinMax, smaller, larger, Exclusion, Condition, Book, policyAt, maskOf}
 use Rattle.peal.specs.Score.{scaled, meets}
+use Rattle.peal.specs.Ranking.{rises}
 use Rattle.peal.specs.Lines.{lines}
 use Rattle.peal.specs.declared.Operator.{Operator}
-use Rattle.peal.specs.declared.Operator.the-variants.{Min, Max, Sum, Mul}
 use Rattle.peal.specs.declared.Sense.{Sense}
 use Rattle.peal.specs.declared.Sense.the-variants.{Above, AtMost}
 
@@ -28,14 +28,8 @@ quiet s t p = meets s t (scaled (p .default))
 
 -- turned is 1 for sum and max under `>=`, and for mul and min under `<`
 unfoldable pub turned : Sense → Operator → Bool
-turned AtMost Sum = true
-turned AtMost Max = true
-turned AtMost Mul = false
-turned AtMost Min = false
-turned Above Sum = false
-turned Above Max = false
-turned Above Mul = true
-turned Above Min = true
+turned AtMost op = rises op
+turned Above op = not (rises op)
 
 -- the record of a mention: flags, the mask of all the policy's signals, its lines
 unfoldable pub listed : Sense → ℤ → Policy → ListedPolicy
