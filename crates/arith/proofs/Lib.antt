@@ -22,3 +22,4 @@ pub mod Below
 pub mod Options
 pub mod Digits
 pub mod Tables
+pub mod Rows

@@ -18,7 +18,7 @@ ghost use Rattle.checks.specs.Walking.{foundMeaning, chosenBy, HasBlocks
 const GROUPS: u32 = 64;
 
 // The lowest set, if there is one.
-pub enum Found {
+enum Found {
     At(u16),
     Nowhere,
 }

@@ -18,7 +18,7 @@ use Rattle.layout.proofs.Shape.{kept-policy, kept-join, no-owner, sound-well-fo
 use Rattle.layout.proofs.Places.{from-nil}
 use Rattle.rod.specs.Reading.{policyValue, joined, remaining, reading, says}
 use Rattle.rod.specs.Values.{policyAt, nodeEnd}
-use Rattle.rod.proofs.Steps.{step, node-after, line-sets, taken-here, first-node}
+use Rattle.rod.proofs.Steps.{step, node-after, policy-lines, taken-here, first-node}
 use Rattle.groups.specs.Groups.{GroupOf, SoundWith}
 use Rattle.groups.specs.Values.{valueWord, PolicyWord, PolicyPut, JoinedWord, JoinPut, PolicyHere, heldWords, column, GroupUnderway}
 use Rattle.groups.proofs.Pairs.{pair-kind}
@@ -65,7 +65,7 @@ module _ (ws : List ℕ) (group at : ℕ) (values : List ℕ) (height : ℕ) (lt
     kept = let k = kept-policy (at + 1) (u .node .above) (recordAt ws at) (kinds (recordsFrom ws (at + 1))) q t (step ws at lt (u .node) (policy q t) e .0) in (k .0, k .3)
 
     pub policy-here : (end : ℕ) → end ≡ nodeEnd ws at → PolicyHere ws at end
-    policy-here end n = record { within = lt; ends = n; set = kept .0; lines = line-sets ws at lt (u .node) q t e }
+    policy-here end n = record { within = lt; set = kept .0; lines = policy-lines ws at lt (u .node) q t e end n }
 
     pub policy-room : height < 16
     policy-room = omega (arith, kept .1, u .few, u .level)

@@ -11,7 +11,7 @@ use Rattle.arith.proofs.Order.{le-or-lt}
 use Rattle.layout.specs.Nodes.{leadingLines}
 use Rattle.layout.specs.Steps.{recordsFrom}
 use Rattle.layout.proofs.Runs.{leading-more, leading-end}
-use Rattle.rod.specs.Values.{lineAt, AllSets, nodeEnd}
+use Rattle.rod.specs.Values.{lineAt, AllSets, LinesTo}
 use Rattle.groups.specs.Groups.{GroupOf, masksFrom, MasksAt}
 use Rattle.groups.specs.Values.{PolicyHere}
 
@@ -55,23 +55,19 @@ line-more ws i some =
     (λ (l : i < length ws / 4). (l, leading-more ws i l some))
     (le-or-lt (length ws / 4) i)
 
-module _ (ws : List ℕ) (from end : ℕ) (e : end ≡ from + length (leadingLines (recordsFrom ws from))) where
+module _ (ws : List ℕ) (from end : ℕ) (l : LinesTo ws from end) where
   lines-run : leadingLines (recordsFrom ws from) ≡ masksFrom ws from (end - from)
-  lines-run = masks-run ws (λ i. leadingLines (recordsFrom ws i)) (line-more ws) from end e
+  lines-run = masks-run ws (λ i. leadingLines (recordsFrom ws i)) (line-more ws) from end (l .run)
 
-  lines-at : from ≤ length ws / 4 → AllSets (leadingLines (recordsFrom ws from)) → MasksAt ws from end
-  lines-at = masks-at ws (λ i. leadingLines (recordsFrom ws i)) (line-more ws) from end e
+  lines-at : from ≤ length ws / 4 → MasksAt ws from end
+  lines-at h = masks-at ws (λ i. leadingLines (recordsFrom ws i)) (line-more ws) from end (l .run) h (l .sets)
 
 -- those of a policy
 module _ (ws : List ℕ) (at end : ℕ) (p : PolicyHere ws at end) where
-  ends : end ≡ at + 1 + length (leadingLines (recordsFrom ws (at + 1)))
-  unfolding nodeEnd
-  ends = p .ends
-
   pub policy-masks : MasksAt ws (at + 1) end
-  policy-masks = lines-at ws (at + 1) end ends (omega (arith, p .within)) (p .lines)
+  policy-masks = lines-at ws (at + 1) end (p .lines) (omega (arith, p .within))
 
   -- some of its lines, by their masks
   pub policy-found : (test : List ℕ → ℕ → Bool) (group : ℕ) (table : List ℕ) → GroupOf (test (masksFrom ws (at + 1) (end - (at + 1)))) group table
       → GroupOf (test (leadingLines (recordsFrom ws (at + 1)))) group table
-  policy-found test group table g = subst (λ (ms : List ℕ). GroupOf (test ms) group table) (sym (lines-run ws (at + 1) end ends)) g
+  policy-found test group table g = subst (λ (ms : List ℕ). GroupOf (test ms) group table) (sym (lines-run ws (at + 1) end (p .lines))) g

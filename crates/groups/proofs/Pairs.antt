@@ -16,8 +16,8 @@ use Rattle.signals.proofs.SetOfLaws.{pair-small}
 use Rattle.layout.specs.Records.{Kind, policy, line, exclusion, unknown, exclusionKind, records, kindOf}
 use Rattle.layout.specs.Nodes.{pairThen, excluded}
 use Rattle.layout.specs.Steps.{recordsFrom}
-use Rattle.layout.proofs.Soundness.{kind-exclusion}
-use Rattle.layout.proofs.Shape.{Numbered, numbered, sound-exclusions}
+use Rattle.layout.proofs.KindLaws.{kind-exclusion, Numbered, numbered}
+use Rattle.layout.proofs.Shape.{sound-exclusions}
 use Rattle.layout.proofs.Places.{from-cons, from-nil}
 use Rattle.rod.specs.Values.{lineAt, AllSets}
 use Rattle.groups.specs.Groups.{masksFrom, MasksAt, SoundWith}

@@ -9,10 +9,10 @@ use Rattle.arith.specs.Trees.{run}
 use Rattle.signals.specs.Sets.{present, overlap}
 use Rattle.blocks.specs.Blocks.{WordOf, BlockOf}
 use Rattle.layout.specs.Records.{Join}
-use Rattle.layout.specs.Nodes.{ListedPolicy, leadingLines, nodes}
+use Rattle.layout.specs.Nodes.{ListedPolicy, nodes}
 use Rattle.layout.specs.Steps.{recordsFrom}
 use Rattle.rod.specs.Reading.{policyValue, joined, remaining, says}
-use Rattle.rod.specs.Values.{AllSets, policyAt, nodeEnd, NodeAt}
+use Rattle.rod.specs.Values.{lineAt, LinesTo, policyAt, NodeAt}
 
 -- where word k of the value at a height stands
 abbrev pub valueWord : ℕ → ℕ → ℕ
@@ -60,9 +60,8 @@ JoinPut join height values left = Written (valueWord height) (JoinedWord join he
 -- the record at this index has a signal set as mask, and so have its lines, which end before index `end`
 pub record PolicyHere (ws : List ℕ) (at end : ℕ) : Type 0 where
   pub within : at < length ws / 4
-  pub ends : end ≡ nodeEnd ws at
-  pub set : getD ws (at * 4 + 1) 0 ≤ 65535
-  pub lines : AllSets (leadingLines (recordsFrom ws (at + 1)))
+  pub set : lineAt ws at ≤ 65535
+  pub lines : LinesTo ws (at + 1) end
 
 -- word k of each of the first `height` values, the last first
 unfoldable pub heldWords : List ℕ → ℕ → ℕ → List ℕ

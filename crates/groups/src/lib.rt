@@ -20,7 +20,7 @@ pub type Table = [u64; TABLE_WORDS];
 // A listing has at most sixteen values at a time, and each is a table.
 pub const VALUE_WORDS: usize = 256;
 
-pub type Values = [u64; VALUE_WORDS];
+type Values = [u64; VALUE_WORDS];
 
 // How many sets a group has.
 pub const GROUP_SETS: u32 = 1024;
@@ -33,8 +33,8 @@ pub fn pair_count(words: &[u32]) -> usize
     ensures { λ r. ⌜ r ≡ pairCount (now (words .entry)) ⌝ }
 {
     let mut i = 0;
-    while i < words.len() / 4 {
-        if words[i * 4] != layout::EXCLUSION {
+    while i < words.len() / layout::RECORD_WORDS {
+        if words[i * layout::RECORD_WORDS] != layout::EXCLUSION {
             return i;
         }
         i += 1;
@@ -62,18 +62,30 @@ fn add_mask(table: &mut Table, mask: u32, group: u32)
     }
 }
 
+// Of four records in a row the mask of the second.
+const SECOND_MASK: usize = layout::RECORD_WORDS + layout::MASK;
+
+// Of the third.
+const THIRD_MASK: usize = 2 * layout::RECORD_WORDS + layout::MASK;
+
+// Of the fourth.
+const FOURTH_MASK: usize = 3 * layout::RECORD_WORDS + layout::MASK;
+
+// How many words the four have.
+const FOUR_RECORDS: usize = 4 * layout::RECORD_WORDS;
+
 // The masks of the records from index `from` up to `end` are put into the table, four at a turn (docs/DECISIONS.md, D37).
 fn gather_fours(words: &[u32], from: usize, end: usize, group: u32, table: &mut Table)
     requires { ⌜ (length (now table) ≡ 16) × (group ≤ 63) × MasksAt (now words) from end × ((end - from) % 4 ≡ 0) ⌝ }
     ensures { λ _. ⌜ Gathered (now (words .entry)) from end group (now (table .entry)) (now (table .exit)) ⌝ }
 {
-    let mut place = from * 4;
-    while place < end * 4 {
-        add_mask(table, words[place + 1], group);
-        add_mask(table, words[place + 5], group);
-        add_mask(table, words[place + 9], group);
-        add_mask(table, words[place + 13], group);
-        place += 16;
+    let mut place = from * layout::RECORD_WORDS;
+    while place < end * layout::RECORD_WORDS {
+        add_mask(table, words[place + layout::MASK], group);
+        add_mask(table, words[place + SECOND_MASK], group);
+        add_mask(table, words[place + THIRD_MASK], group);
+        add_mask(table, words[place + FOURTH_MASK], group);
+        place += FOUR_RECORDS;
     }
 }
 
@@ -84,7 +96,7 @@ fn gather_rest(words: &[u32], from: usize, end: usize, group: u32, table: &mut T
 {
     let mut i = from;
     while i < end {
-        add_mask(table, words[i * 4 + 1], group);
+        add_mask(table, words[i * layout::RECORD_WORDS + layout::MASK], group);
         i += 1;
     }
 }
@@ -221,7 +233,7 @@ fn put_policy(
     ensures { λ _. ⌜ Said (now (words .entry)) at quiet turned group height
         (now (values .entry)) (now (values .exit)) ⌝ }
 {
-    let mask = words[at * 4 + 1];
+    let mask = words[at * layout::RECORD_WORDS + layout::MASK];
     let found = lines_inside(words, at + 1, end, group);
     let low = blocks::low_overlap(mask % 64);
     let turn = blocks::all_if(turned);
@@ -269,7 +281,7 @@ fn after_node(
     requires { ⌜ GroupUnderway (now words) group at (now values) height ⌝ }
     ensures { λ r. ⌜ GroupUnderway (now (words .entry)) group end (now (values .exit)) r ⌝ }
 {
-    let k = layout::kind_of(words[at * 4]);
+    let k = layout::kind_of(words[at * layout::RECORD_WORDS]);
     match k {
         layout::Kind::Policy { quiet, turned } => {
             put_policy(words, at, end, quiet, turned, group, values, height);
@@ -297,7 +309,7 @@ pub fn reading(words: &[u32], pairs: usize, group: u32, values: &mut Values)
 {
     let mut height: usize = 0;
     let mut at = pairs;
-    while at < words.len() / 4 {
+    while at < words.len() / layout::RECORD_WORDS {
         let end = rod::next_index(words, at);
         height = after_node(words, at, end, group, values, height);
         at = end;

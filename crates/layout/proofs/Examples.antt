@@ -1,10 +1,12 @@
 -- Computed examples of the verdict: each way in which a listing can be declined. The words are those of document 01's book, damaged.
+-- Then a policy's two lines, written from record 2 on.
 use Prim.Native.Nat.{ℕ}
 use mathlib.Core.List.{List, [], _∷_, _++_}
 use mathlib.Core.Path.{_≡_, refl}
-use lib.ListN.{take, set}
+use lib.ListN.{take, set, replicate}
 use Rattle.answers.specs.Answers.{Answer, result, refused}
 use Rattle.layout.specs.Judgement.{verdict}
+use Rattle.layout.specs.Writing.{putRecords, linesUpTo}
 use Rattle.layout.specs.Computing.{layoutComputes}
 
 -- the seven records as printed
@@ -192,3 +194,8 @@ sixteen-pairs = refl
 seventeen-pairs : verdict (pairs 1 17) ≡ refused 10 17
 unfolding layoutComputes
 seventeen-pairs = refl
+
+-- the words before them and after them stay
+lines-written : putRecords (replicate 14 9) 2 (linesUpTo 3 2 (5 ∷ 6 ∷ [])) ≡ 9 ∷ 9 ∷ 9 ∷ 9 ∷ 4 ∷ 5 ∷ 0 ∷ 3 ∷ 4 ∷ 6 ∷ 0 ∷ 0 ∷ 9 ∷ 9 ∷ []
+unfolding layoutComputes
+lines-written = refl

@@ -10,11 +10,10 @@ use Rattle.signals.specs.Sets.{isSet, inside}
 use Rattle.layout.specs.Records.{Record, and, or, Kind, policy, line, exclusion, unknown, lineKind, joinKind, exclusionKind, kindOf, kinds}
 use Rattle.layout.specs.Judgement.{ifLine, SoFar, insidePolicy, keepsLayout, soFarAfter}
 use Rattle.layout.specs.Steps.{recordAt, recordsFrom, stepOf, stepAt, PassedOver, AfterLines}
-use Rattle.layout.proofs.Soundness.{kind-line}
-use Rattle.layout.proofs.Shape.{Numbered, numbered}
+use Rattle.layout.proofs.KindLaws.{kind-line, Numbered, numbered}
 use Rattle.layout.proofs.Places.{next-past}
 use Rattle.layout.proofs.StepLaws.{line-kept}
-use Rattle.layout.proofs.Judging.{step-line, judged-on, step-made}
+use Rattle.layout.proofs.JudgementLaws.{step-line, judged-on, step-made}
 
 pub line-passed : (ws : List ℕ) (i mask : ℕ) (r : Record) (x : ℕ) → r ≡ recordAt ws i → x ≡ ifLine (kinds (recordsFrom ws (i + 1))) (i + 1 + 1)
     → r .kind ≡ 4 → r .lines ≡ 0 → r .next ≡ x → (isSet (r .mask) && inside (r .mask) mask) ≡ true → PassedOver ws i mask

@@ -1,5 +1,5 @@
 -- The records from an index on, as the code reads them: four words at four times the index.
-use Prim.Native.Nat.{ℕ, zero, suc, _+_, _*_, _-_, _/_, _≤_, _<_}
+use Prim.Native.Nat.{ℕ, zero, suc, _+_, _*_, _/_, _≤_, _<_}
 use mathlib.Core.Bool.{true, false}
 use mathlib.Core.List.{List, [], _∷_}
 use mathlib.Core.Path.{_≡_, refl, ap, ap₂, _∙_}
@@ -8,8 +8,8 @@ use lib.ListN.{length, getD, drop}
 use Rattle.layout.specs.Records.{Record, records, Kind, policy, line, exclusion, unknown, lineKind, kindOf, isLine, kinds}
 use Rattle.layout.specs.Judgement.{ifAny, ifLine, nextNode}
 use Rattle.layout.specs.Steps.{recordAt, recordsFrom}
-use Rattle.layout.proofs.Soundness.{kind-line}
-use Rattle.layout.proofs.Shape.{Numbered, numbered, same-record}
+use Rattle.layout.proofs.KindLaws.{kind-line, Numbered, numbered}
+use Rattle.layout.proofs.Shape.{same-record}
 
 -- the next record is the four words at its place
 pub from-cons : (ws : List ℕ) (i : ℕ) → i < length ws / 4 → recordsFrom ws i ≡ recordAt ws i ∷ recordsFrom ws (i + 1)

@@ -14,10 +14,11 @@ use Rattle.answers.specs.Answers.{Answer, result, require}
 use Rattle.arith.specs.Trees.{leaf, join, value, joining, postfix}
 use Rattle.arith.proofs.Tests.{and-left, and-right}
 use Rattle.signals.specs.Sets.{isSet, inside, isPair}
-use Rattle.layout.specs.Records.{Record, records, words, Join, and, or, Kind, policy, line, exclusion, unknown, lineKind, joinKind, exclusionKind, policyKind, kindOf, isLine, kinds}
+use Rattle.layout.specs.Records.{Record, records, words, Join, Kind, policy, line, exclusion, unknown, lineKind, joinKind, exclusionKind, kindOf, isLine, kinds}
 use Rattle.layout.specs.Judgement.{ifAny, ifLine, nextNode, SoFar, noRecord, insidePolicy, keepsLayout, soFarAfter, judged, lengthSound, verdict}
 use Rattle.layout.specs.Nodes.{ListedNode, ListedTree, lineRecords, nodeRecords, exclusionRecords, listing, leadingLines, nodeThen, nodes, pairThen, excluded}
 use Rattle.layout.specs.WellFormed.{LinesFit, TreeFits, policyCount, ArePairs, PairsFit, WellFormed}
+use Rattle.layout.proofs.KindLaws.{Numbered, numbered}
 use Rattle.layout.proofs.Soundness.{no-line, any-nodes, next-nodes, line-lines, next-lines}
 
 -- ---- what a test that holds says
@@ -82,35 +83,6 @@ pub some-after : (ks : List Kind) (k : ℕ) → 1 ≤ length ks → ifAny ks k �
 unfolding ifAny
 some-after [] k h = absurd (omega arith)
 some-after (x ∷ ks) k h = refl
-
--- ---- what a kind says of its number
-
-abbrev pub Numbered : Kind → ℕ → Type 0
-Numbered line k = k ≡ lineKind
-Numbered (policy q t) k = k ≡ policyKind q t
-Numbered (Kind.join j) k = k ≡ joinKind j
-Numbered exclusion k = k ≡ exclusionKind
-Numbered unknown k = Unit {0}
-
-pick : (P : Kind → Type 0) (k a : ℕ) (x y : Kind) → (k ≡ a → P x) → P y → P (cond (eqb k a) x y)
-pick P k a x y f g = go (eqb k a) refl
-  where
-    go : (b : Bool) → eqb k a ≡ b → P (cond b x y)
-    go true e = f (eqb-true k a e)
-    go false e = g
-
-pub numbered : (k : ℕ) → Numbered (kindOf k) k
-unfolding kindOf
-numbered k =
-    pick (λ x. Numbered x k) k lineKind _ _ (λ e. e)
-    (pick (λ x. Numbered x k) k (joinKind and) _ _ (λ e. e)
-    (pick (λ x. Numbered x k) k (joinKind or) _ _ (λ e. e)
-    (pick (λ x. Numbered x k) k (policyKind false false) _ _ (λ e. e)
-    (pick (λ x. Numbered x k) k (policyKind true false) _ _ (λ e. e)
-    (pick (λ x. Numbered x k) k (policyKind false true) _ _ (λ e. e)
-    (pick (λ x. Numbered x k) k (policyKind true true) _ _ (λ e. e)
-    (pick (λ x. Numbered x k) k exclusionKind _ _ (λ e. e)
-    tt)))))))
 
 -- ---- a judgement that ends in sound
 

@@ -1,6 +1,6 @@
 -- The listing of well-formed nodes is sound, and its nodes are those nodes.
 use Prim.Native.Nat.{ℕ, suc, _+_, _*_, _-_, _%_, _≤_}
-use mathlib.Core.Bool.{Bool, true, false, _&&_}
+use mathlib.Core.Bool.{Bool, true, _&&_}
 use mathlib.Core.List.{List, [], _∷_, _++_, append-assoc, append-nil}
 use mathlib.Core.Option.{Option, none, some}
 use mathlib.Core.Path.{_≡_, refl, sym, ap, subst, subst₂, _∙_}
@@ -11,32 +11,13 @@ use borrow.Author.Tests.{eq-eqb, ne-eqb, le-leb}
 use Rattle.answers.specs.Answers.{result}
 use Rattle.arith.specs.Trees.{leaf, join, value, joining, postfix}
 use Rattle.signals.specs.Sets.{isSet, inside}
-use Rattle.layout.specs.Records.{Record, records, words, Join, and, or, Kind, policy, line, exclusion, bit, lineKind, joinKind, exclusionKind, policyKind, kindOf, isLine, kinds}
+use Rattle.layout.specs.Records.{Record, records, words, Kind, policy, line, exclusion, lineKind, joinKind, exclusionKind, policyKind, kindOf, isLine, kinds}
 use Rattle.layout.specs.Judgement.{ifAny, ifLine, nextNode, SoFar, noRecord, insidePolicy, keepsLayout, soFarAfter, judged, lengthSound, verdict}
 use Rattle.layout.specs.Nodes.{ListedNode, ListedTree, lineRecords, nodeRecords, exclusionRecords, listing, leadingLines, nodeThen, nodes, pairThen, excluded}
 use Rattle.layout.specs.WellFormed.{LinesFit, TreeFits, policyCount, ArePairs, PairsFit, WellFormed}
+use Rattle.layout.proofs.KindLaws.{kind-line, kind-policy, kind-join, kind-exclusion}
 
--- ---- kinds and tests
-
-pub kind-line : kindOf lineKind ≡ line
-unfolding kindOf lineKind
-kind-line = refl
-
-pub kind-policy : (q t : Bool) → kindOf (policyKind q t) ≡ policy q t
-unfolding kindOf lineKind joinKind policyKind bit
-kind-policy true true = refl
-kind-policy true false = refl
-kind-policy false true = refl
-kind-policy false false = refl
-
-pub kind-join : (j : Join) → kindOf (joinKind j) ≡ Kind.join j
-unfolding kindOf lineKind joinKind
-kind-join and = refl
-kind-join or = refl
-
-pub kind-exclusion : kindOf exclusionKind ≡ exclusion
-unfolding kindOf lineKind joinKind policyKind bit exclusionKind
-kind-exclusion = refl
+-- ---- tests
 
 judged-step : (n : ℕ) (so : SoFar) (r : Record) (rest : List Record) (k : Kind) → kindOf (r .kind) ≡ k
     → keepsLayout (n + 1) so k r (kinds rest) ≡ true → judged n so (r ∷ rest) ≡ judged (n + 1) (soFarAfter so k r) rest

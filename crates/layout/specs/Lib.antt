@@ -4,4 +4,5 @@ pub mod Nodes
 pub mod WellFormed
 pub mod Meaning
 pub mod Steps
+pub mod Writing
 pub mod Computing

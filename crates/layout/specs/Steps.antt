@@ -11,12 +11,12 @@ use Rattle.layout.specs.Records
 use Rattle.layout.specs.Records.{records, kindOf, kinds}
 use Rattle.layout.specs.Judgement
 use Rattle.layout.specs.Judgement.{nextNode, insidePolicy, keepsLayout, soFarAfter, judged}
-use Rattle.layout.specs.declared.Kind.{Kind}
-use Rattle.layout.specs.declared.Kind.the-variants.{Line, And, Or, Policy, Exclusion, Unknown}
-use Rattle.layout.specs.declared.Record.{Record}
-use Rattle.layout.specs.declared.SoFar.{SoFar}
-use Rattle.layout.specs.declared.Step.{Step}
-use Rattle.layout.specs.declared.Step.the-variants.{Next, Breaks}
+use Rattle.layout.specs.declared.records.Kind.{Kind}
+use Rattle.layout.specs.declared.records.Kind.the-variants.{Line, And, Or, Policy, Exclusion, Unknown}
+use Rattle.layout.specs.declared.records.Record.{Record}
+use Rattle.layout.specs.declared.judging.SoFar.{SoFar}
+use Rattle.layout.specs.declared.judging.Step.{Step}
+use Rattle.layout.specs.declared.judging.Step.the-variants.{Next, Breaks}
 
 -- a kind
 abbrev pub kindMeaning : Kind → Records.Kind

@@ -15,49 +15,47 @@ use Rattle.layout.specs.Nodes.{ListedPolicy, leadingLines}
 use Rattle.layout.specs.Steps.{recordsFrom}
 use Rattle.layout.proofs.Runs.{leading-more, leading-end}
 use Rattle.rod.specs.Reading.{someLine, policyValue}
-use Rattle.rod.specs.Values.{lineAt, AllSets}
+use Rattle.rod.specs.Values.{lineAt, AllSets, LinesTo}
 
 -- at index i of a run of lines that ends before index `end`: some line from `from` on lies inside the set where some line from here on does
 pub record Walk (ws : List ℕ) (from end set i : ℕ) : Type 0 where
-  pub run : end ≡ i + length (leadingLines (recordsFrom ws i))
-  pub sets : AllSets (leadingLines (recordsFrom ws i))
+  pub left : LinesTo ws i end
   pub same : someLine (leadingLines (recordsFrom ws i)) set ≡ someLine (leadingLines (recordsFrom ws from)) set
 
 module _ {ws : List ℕ} {from end set i : ℕ} (w : Walk ws from end set i) where
   -- a line is left
   module _ (more : i < end) where
-    pub walk-within : i < length ws / 4
-    walk-within = ⊎-elim (λ h. absurd (omega (arith, w .run, ap length (past h)))) (λ h. h) (le-or-lt (length ws / 4) i)
+    within : i < length ws / 4
+    within = ⊎-elim (λ h. absurd (omega (arith, w .left .run, ap length (past h)))) (λ h. h) (le-or-lt (length ws / 4) i)
       where
         past : length ws / 4 ≤ i → leadingLines (recordsFrom ws i) ≡ []
         past h = leading-end ws i h
 
     first : leadingLines (recordsFrom ws i) ≡ lineAt ws i ∷ leadingLines (recordsFrom ws (i + 1))
-    first = leading-more ws i walk-within (omega (arith, w .run))
+    first = leading-more ws i within (omega (arith, w .left .run))
 
-    here-set : lineAt ws i ≤ 65535
-    here-set = subst AllSets first (w .sets) .0
+    pub walk-here : (i < length ws / 4) × (lineAt ws i ≤ 65535)
+    walk-here = (within, subst AllSets first (w .left .sets) .0)
 
     -- by the test of this line
-    module _ (t : Bool) (told : lineAt ws i ≤ 65535 → t ≡ inside (lineAt ws i) set) where
+    module _ (t : Bool) (told : t ≡ inside (lineAt ws i) set) where
       pub walk-found : t ≡ true → true ≡ someLine (leadingLines (recordsFrom ws from)) set
       unfolding someLine
-      walk-found e = rw (first, sym (told here-set) ∙ e) refl ∙ w .same
+      walk-found e = rw (first, sym told ∙ e) refl ∙ w .same
 
       pub walk-on : t ≡ false → (j : ℕ) → i + 1 ≡ j → Walk ws from end set j
       unfolding someLine
       walk-on e j k =
           subst (Walk ws from end set) k
           (record {
-            run = omega (arith, w .run, ap length first);
-            sets = subst AllSets first (w .sets) .1;
-            same = rw (first, sym (told here-set) ∙ e) refl ∙ w .same;
+            left = record { run = omega (arith, w .left .run, ap length first); sets = subst AllSets first (w .left .sets) .1 };
+            same = rw (first, sym told ∙ e) refl ∙ w .same;
           })
 
   -- no line is left
   pub walk-end : end ≤ i → false ≡ someLine (leadingLines (recordsFrom ws from)) set
   unfolding someLine
-  walk-end h = go (leadingLines (recordsFrom ws i)) (omega (arith, w .run)) ∙ w .same
+  walk-end h = go (leadingLines (recordsFrom ws i)) (omega (arith, w .left .run)) ∙ w .same
     where
       go : (ls : List ℕ) → length ls ≡ 0 → false ≡ someLine ls set
       go [] e = refl

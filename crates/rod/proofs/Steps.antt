@@ -19,7 +19,7 @@ use Rattle.layout.proofs.Shape.{kept-policy, kept-join, kept-exclusion, some-af
 use Rattle.layout.proofs.Places.{from-cons, from-nil}
 use Rattle.layout.proofs.Runs.{behindLines, behind-drop, behind-no-line, behind-nodes, behind-next, behind-judged, from-behind, run-in-words, nodes-here}
 use Rattle.rod.specs.Reading.{policyValue, joined, remaining, reading, says, rodAnswer}
-use Rattle.rod.specs.Values.{bitsOf, AllSets, policyAt, nodeEnd, NodeAt, Underway}
+use Rattle.rod.specs.Values.{bitsOf, ValueAdded, LastJoined, AllSets, LinesTo, policyAt, nodeEnd, NodeAt, Underway}
 use Rattle.rod.proofs.ValueLaws.{bits-below, one-value}
 
 all-sets : (mask : ℕ) (ls : List ℕ) → LinesFit mask ls → AllSets ls
@@ -82,9 +82,10 @@ module _ (ws : List ℕ) (at : ℕ) (lt : at < length ws / 4) (node : NodeAt ws 
       ∙ ap (λ (ns : List ListedNode). remaining (run joined (policyValue set) ns stack)) (sym (nodes-here ws at k lt e))
 
   -- its lines are signal sets
-  pub line-sets : (q t : Bool) → policy q t ≡ kindOf (getD ws (at * 4) 0) → AllSets (leadingLines rest)
-  unfolding soFarAfter
-  line-sets q t e = all-sets _ (leadingLines rest) (lines-fit (at + 1) (getD ws (at * 4 + 1) 0) _ rest refl (step (policy q t) e .1))
+  pub policy-lines : (q t : Bool) → policy q t ≡ kindOf (getD ws (at * 4) 0) → (end : ℕ) → end ≡ nodeEnd ws at → LinesTo ws (at + 1) end
+  unfolding soFarAfter nodeEnd
+  policy-lines q t e end n =
+      record { run = n; sets = all-sets _ (leadingLines rest) (lines-fit (at + 1) (getD ws (at * 4 + 1) 0) _ rest refl (step (policy q t) e .1)) }
 
   -- its `next` names the node behind it, or is 0
   next-word : getD ws (at * 4 + 3) 0 ≡ ifAny (recordsFrom ws (nodeEnd ws at)) (nodeEnd ws at + 1)
@@ -149,7 +150,7 @@ module _ (ws : List ℕ) (set at values : ℕ) (lt : at < length ws / 4) (u : Un
 
   -- a policy adds its value
   pub past-policy : (q t : Bool) → policy q t ≡ kindOf (getD ws (at * 4) 0) → (v : Bool) (r : ℕ) → v ≡ policyValue set (policyAt ws at q t)
-      → ((s : List Bool) → values ≡ bitsOf s → r ≡ bitsOf (v ∷ s)) → Underway ws set (nodeEnd ws at) r
+      → ValueAdded v values r → Underway ws set (nodeEnd ws at) r
   unfolding soFarAfter nodeThen run node-after
   past-policy q t e v r ev er =
       let k = kept-policy (at + 1) (u .node .above) (recordAt ws at) (kinds (recordsFrom ws (at + 1))) q t (step ws at lt (u .node) (policy q t) e .0) in
@@ -179,7 +180,7 @@ module _ (ws : List ℕ) (set at values : ℕ) (lt : at < length ws / 4) (u : Un
 
   -- a join takes two values and leaves one
   pub past-join : (j : Join) → Kind.join j ≡ kindOf (getD ws (at * 4) 0) → (r : ℕ)
-      → ((a b : Bool) (s : List Bool) → values ≡ bitsOf (b ∷ a ∷ s) → r ≡ bitsOf (joined j a b ∷ s)) → Underway ws set (nodeEnd ws at) r
+      → LastJoined j values r → Underway ws set (nodeEnd ws at) r
   unfolding soFarAfter nodeThen run taken node-after
   past-join j e r er = go (u .stack) (u .held) (u .height) (same-here (Kind.join j) e)
     where

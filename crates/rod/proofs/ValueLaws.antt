@@ -9,7 +9,7 @@ use lib.ListN.{length}
 use lib.Dec.{eqb}
 use Rattle.layout.specs.Records.{bit}
 use Rattle.rod.specs.Reading.{joined}
-use Rattle.rod.specs.Values.{bitsOf, joinMeaning}
+use Rattle.rod.specs.Values.{bitsOf, ValueAdded, LastJoined, joinMeaning}
 
 -- n values are below 2 to the n
 pub bits-below : (s : List Bool) (n : ℕ) → length s ≤ n → bitsOf s < 2 ^ n
@@ -22,11 +22,11 @@ bits-below (false ∷ s) (suc n) h = let k : bitsOf s < 2 ^ n = bits-below s n (
 
 -- one value more
 module _ (values : ℕ) (value : Bool) where
-  pub value-yes : value ≡ true → (s : List Bool) → values ≡ bitsOf s → values * 2 + 1 ≡ bitsOf (value ∷ s)
+  pub value-yes : value ≡ true → ValueAdded value values (values * 2 + 1)
   unfolding bitsOf bit
   value-yes v s e = rw v (omega arith)
 
-  pub value-no : value ≡ false → (s : List Bool) → values ≡ bitsOf s → values * 2 ≡ bitsOf (value ∷ s)
+  pub value-no : value ≡ false → ValueAdded value values (values * 2)
   unfolding bitsOf bit
   value-no v s e = rw v (omega arith)
 
@@ -42,28 +42,28 @@ module _ (values : ℕ) (o : Bool) where
   abbrev yes : ℕ
   yes = values % 2 + values / 2 % 2
 
-  pub or-none : o ≡ true → yes ≡ 0 → (a b : Bool) (s : List Bool) → values ≡ bitsOf (b ∷ a ∷ s) → values / 4 * 2 ≡ bitsOf (joined (joinMeaning o) a b ∷ s)
+  pub or-none : o ≡ true → yes ≡ 0 → LastJoined (joinMeaning o) values (values / 4 * 2)
   unfolding bitsOf bit joined
   or-none p n true true s e = absurd (omega (arith, low-digit values 1 1 (bitsOf s) (omega arith) (omega arith) e))
   or-none p n true false s e = absurd (omega (arith, next-digit values 0 1 (bitsOf s) (omega arith) (omega arith) e))
   or-none p n false true s e = absurd (omega (arith, low-digit values 1 0 (bitsOf s) (omega arith) (omega arith) e))
   or-none p n false false s e = rw p (omega arith)
 
-  pub or-some : o ≡ true → (yes ≡ 0 → ⊥) → (a b : Bool) (s : List Bool) → values ≡ bitsOf (b ∷ a ∷ s) → values / 4 * 2 + 1 ≡ bitsOf (joined (joinMeaning o) a b ∷ s)
+  pub or-some : o ≡ true → (yes ≡ 0 → ⊥) → LastJoined (joinMeaning o) values (values / 4 * 2 + 1)
   unfolding bitsOf bit joined
   or-some p n true true s e = rw p (omega arith)
   or-some p n true false s e = rw p (omega arith)
   or-some p n false true s e = rw p (omega arith)
   or-some p n false false s e = absurd (n (omega arith))
 
-  pub and-both : o ≡ false → yes ≡ 2 → (a b : Bool) (s : List Bool) → values ≡ bitsOf (b ∷ a ∷ s) → values / 4 * 2 + 1 ≡ bitsOf (joined (joinMeaning o) a b ∷ s)
+  pub and-both : o ≡ false → yes ≡ 2 → LastJoined (joinMeaning o) values (values / 4 * 2 + 1)
   unfolding bitsOf bit joined
   and-both p n true true s e = rw p (omega arith)
   and-both p n true false s e = absurd (omega (arith, low-digit values 0 1 (bitsOf s) (omega arith) (omega arith) e))
   and-both p n false true s e = absurd (omega (arith, next-digit values 1 0 (bitsOf s) (omega arith) (omega arith) e))
   and-both p n false false s e = absurd (omega (arith, low-digit values 0 0 (bitsOf s) (omega arith) (omega arith) e))
 
-  pub and-not : o ≡ false → (yes ≡ 2 → ⊥) → (a b : Bool) (s : List Bool) → values ≡ bitsOf (b ∷ a ∷ s) → values / 4 * 2 ≡ bitsOf (joined (joinMeaning o) a b ∷ s)
+  pub and-not : o ≡ false → (yes ≡ 2 → ⊥) → LastJoined (joinMeaning o) values (values / 4 * 2)
   unfolding bitsOf bit joined
   and-not p n true true s e = absurd (n (omega arith))
   and-not p n true false s e = rw p (omega arith)

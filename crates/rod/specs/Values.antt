@@ -18,6 +18,14 @@ unfoldable pub bitsOf : List Bool → ℕ
 bitsOf [] = 0
 bitsOf (b ∷ values) = bit b + 2 * bitsOf values
 
+-- one value more
+abbrev pub ValueAdded : Bool → (before after : ℕ) → Type 0
+ValueAdded value before after = (s : List Bool) → before ≡ bitsOf s → after ≡ bitsOf (value ∷ s)
+
+-- the last two values joined into one
+abbrev pub LastJoined : Join → (before after : ℕ) → Type 0
+LastJoined j before after = (a b : Bool) (s : List Bool) → before ≡ bitsOf (b ∷ a ∷ s) → after ≡ bitsOf (joined j a b ∷ s)
+
 -- a join, from the code's flag
 abbrev pub joinMeaning : Bool → Join
 joinMeaning true = or
@@ -30,6 +38,11 @@ lineAt ws i = getD ws (i * 4 + 1) 0
 -- every number is a signal set
 abbrev pub AllSets : List ℕ → Type 0
 AllSets ls = Each (λ (l : ℕ). l ≤ 65535) ls
+
+-- the lines from index `from` on are signal sets, and end before index `end`
+pub record LinesTo (ws : List ℕ) (from end : ℕ) : Type 0 where
+  pub run : end ≡ from + length (leadingLines (recordsFrom ws from))
+  pub sets : AllSets (leadingLines (recordsFrom ws from))
 
 -- the policy at an index, with its flags and the lines after it
 abbrev pub policyAt : List ℕ → ℕ → Bool → Bool → ListedPolicy

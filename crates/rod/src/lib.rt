@@ -1,7 +1,5 @@
 // The rod: what a listing says of a signal set, or of each set of a traverse. It knows the listing part and nothing of books.
 // `decide` and `traverse` are for every caller; `reading` and `next_index` are for the crates above.
-ghost use mathlib.Core.Bool.{Bool};
-ghost use mathlib.Core.List.{List, _∷_};
 ghost use mathlib.Core.Path.{_≡_};
 ghost use Prim.Native.Nat.{_+_, _*_, _/_, _≤_, _<_};
 ghost use lib.ListN.{length};
@@ -10,23 +8,23 @@ ghost use Rattle.signals.specs.Sets.{inside};
 ghost use Rattle.layout.specs.Judgement.{verdict};
 ghost use Rattle.layout.specs.Nodes.{leadingLines};
 ghost use Rattle.layout.specs.Steps.{recordsFrom};
-ghost use Rattle.rod.specs.Reading.{someLine, policyValue, joined, says, rodAnswer};
+ghost use Rattle.rod.specs.Reading.{someLine, policyValue, says, rodAnswer};
 ghost use Rattle.rod.specs.Traversing.{answersTo};
 ghost use Rattle.rod.specs.Meaning.{rodMeaning, TraverseRan};
-ghost use Rattle.rod.specs.Values.{bitsOf, joinMeaning, lineAt, AllSets, policyAt, nodeEnd, NodeAt, Underway};
+ghost use Rattle.rod.specs.Values.{ValueAdded, LastJoined, joinMeaning, lineAt, LinesTo, policyAt, nodeEnd, NodeAt, Underway};
 
 // The line at index i, a signal set, lies wholly inside the set.
 fn is_inside(words: &[u32], i: usize, set: u16) -> bool
-    requires { ⌜ i < length (now words) / 4 ⌝ }
-    ensures { λ r. ⌜ (lineAt (now (words .entry)) i ≤ 65535 → r ≡ inside (lineAt (now (words .entry)) i) set) ⌝ }
+    requires { ⌜ (i < length (now words) / 4) × (lineAt (now words) i ≤ 65535) ⌝ }
+    ensures { λ r. ⌜ r ≡ inside (lineAt (now (words .entry)) i) set ⌝ }
 {
-    let line = words[i * 4 + 1];
+    let line = words[i * layout::RECORD_WORDS + layout::MASK];
     line & set as u32 == line
 }
 
 // Some line of the records from index `from` up to `end`, all of them lines, lies wholly inside the set.
 fn some_line(words: &[u32], from: usize, end: usize, set: u16) -> bool
-    requires { ⌜ (end ≡ from + length (leadingLines (recordsFrom (now words) from))) × AllSets (leadingLines (recordsFrom (now words) from)) ⌝ }
+    requires { ⌜ LinesTo (now words) from end ⌝ }
     ensures { λ r. ⌜ r ≡ someLine (leadingLines (recordsFrom (now (words .entry)) from)) set ⌝ }
 {
     let mut i = from;
@@ -57,10 +55,10 @@ fn some_line(words: &[u32], from: usize, end: usize, set: u16) -> bool
 
 // What the policy at index `at` says of the set; its lines end before index `end`.
 fn policy_value(words: &[u32], at: usize, end: usize, quiet: bool, turned: bool, set: u16) -> bool
-    requires { ⌜ (at < length (now words) / 4) × (end ≡ nodeEnd (now words) at) × AllSets (leadingLines (recordsFrom (now words) (at + 1))) ⌝ }
+    requires { ⌜ (at < length (now words) / 4) × LinesTo (now words) (at + 1) end ⌝ }
     ensures { λ r. ⌜ r ≡ policyValue set (policyAt (now (words .entry)) at quiet turned) ⌝ }
 {
-    let mask = words[at * 4 + 1];
+    let mask = words[at * layout::RECORD_WORDS + layout::MASK];
     if mask & set as u32 != 0 {
         let found = some_line(words, at + 1, end, set);
         if turned { !found } else { found }
@@ -72,14 +70,14 @@ fn policy_value(words: &[u32], at: usize, end: usize, quiet: bool, turned: bool,
 // One value more. Values are kept as bits, the last in the lowest bit.
 fn with_value(values: u32, value: bool) -> u32
     requires { ⌜ values ≤ 65535 ⌝ }
-    ensures { λ r. ⌜ ((s : List Bool) → values ≡ bitsOf s → r ≡ bitsOf (value ∷ s)) ⌝ }
+    ensures { λ r. ⌜ ValueAdded value values r ⌝ }
 {
     if value { values * 2 + 1 } else { values * 2 }
 }
 
 // The last two values joined into one.
 fn with_join(values: u32, or: bool) -> u32
-    ensures { λ r. ⌜ ((a b : Bool) (s : List Bool) → values ≡ bitsOf (b ∷ a ∷ s) → r ≡ bitsOf (joined (joinMeaning or) a b ∷ s)) ⌝ }
+    ensures { λ r. ⌜ LastJoined (joinMeaning or) values r ⌝ }
 {
     let yes = values % 2 + values / 2 % 2;
     let rest = values / 4 * 2;
@@ -95,9 +93,9 @@ pub fn next_index(words: &[u32], at: usize) -> usize
     requires { ⌜ (at < length (now words) / 4) × NodeAt (now words) at ⌝ }
     ensures { λ r. ⌜ r ≡ nodeEnd (now (words .entry)) at ⌝ }
 {
-    let next = words[at * 4 + 3];
+    let next = words[at * layout::RECORD_WORDS + layout::NEXT];
     if next == 0 {
-        words.len() / 4
+        words.len() / layout::RECORD_WORDS
     } else {
         next as usize - 1
     }
@@ -108,7 +106,7 @@ fn after_node(words: &[u32], at: usize, end: usize, set: u16, values: u32) -> u3
     requires { ⌜ (at < length (now words) / 4) × (end ≡ nodeEnd (now words) at) × Underway (now words) set at values ⌝ }
     ensures { λ r. ⌜ Underway (now (words .entry)) set end r ⌝ }
 {
-    let k = layout::kind_of(words[at * 4]);
+    let k = layout::kind_of(words[at * layout::RECORD_WORDS]);
     match k {
         layout::Kind::Policy { quiet, turned } => {
             with_value(values, policy_value(words, at, end, quiet, turned, set))
@@ -128,7 +126,7 @@ pub fn reading(words: &[u32], set: u16) -> bool
 {
     let mut values: u32 = 0;
     let mut at: usize = 0;
-    while at < words.len() / 4 {
+    while at < words.len() / layout::RECORD_WORDS {
         let end = next_index(words, at);
         values = after_node(words, at, end, set, values);
         at = end;

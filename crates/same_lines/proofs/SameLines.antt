@@ -15,7 +15,7 @@ use Rattle.signals.specs.Sets.{inside}
 use Rattle.signals.proofs.SetOfLaws.{inside-self}
 use Rattle.layout.specs.Records.{policy, kindOf}
 use Rattle.layout.specs.Nodes.{ListedPolicy}
-use Rattle.layout.proofs.Soundness.{kind-policy}
+use Rattle.layout.proofs.KindLaws.{kind-policy}
 use Rattle.rod.specs.Reading.{someLine, policyValue, says, rodAnswer}
 use Rattle.checks.specs.Checks.{permitted, Which, first, second, alike, differAt}
 use Rattle.checks.specs.Meaning.{comparisonMeaning}

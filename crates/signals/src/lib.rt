@@ -3,7 +3,13 @@ ghost use mathlib.Core.Bool.{_&&_};
 ghost use mathlib.Core.List.{[], _∷_};
 ghost use mathlib.Core.Path.{_≡_};
 ghost use Prim.Native.Nat.{_≤_};
-ghost use Rattle.signals.specs.Sets.{isSet, present, inside, overlap, isPair, setOf};
+ghost use Rattle.signals.specs.Sets.{isSet, present, inside, isPair, setOf};
+
+// How many signals there are.
+const SIGNALS: u32 = 16;
+
+// The set of all of them: a number above it is no signal set.
+pub const HIGHEST_SET: u32 = 65535;
 
 // The set of one signal. The crates above have signals from 0 to 15 alone.
 pub fn bit(signal: u32) -> u32
@@ -28,24 +34,17 @@ pub fn lies_inside(mask: u32, set: u16) -> bool
     mask & set as u32 == mask
 }
 
-// The mask shares a signal with the set.
-pub fn overlaps(mask: u32, set: u16) -> bool
-    ensures { λ r. ⌜ r ≡ overlap mask set ⌝ }
-{
-    mask & set as u32 != 0
-}
-
 // The mask is a set of exactly two signals.
 pub fn is_pair(mask: u32) -> bool
     ensures { λ r. ⌜ r ≡ isPair mask ⌝ }
 {
-    if mask > 65535 {
+    if mask > HIGHEST_SET {
         return false;
     }
     let set = mask as u16;
     let mut count: u32 = 0;
     let mut signal: u32 = 0;
-    while signal < 16 {
+    while signal < SIGNALS {
         count += is_present(set, signal) as u32;
         signal += 1;
     }

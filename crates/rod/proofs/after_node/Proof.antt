@@ -2,7 +2,7 @@
 use mathlib.Core.Path.{sym, ap, _∙_}
 use Rattle.layout.specs.Records.{and, or}
 use Rattle.layout.specs.Steps.{kindMeaning}
-use Rattle.rod.proofs.Steps.{not-line, not-unknown, line-sets, values-small, past-policy, past-join, past-exclusion, at-end}
+use Rattle.rod.proofs.Steps.{not-line, not-unknown, policy-lines, values-small, past-policy, past-join, past-exclusion, at-end}
 use borrow.Author.Needs.{needs}
 use Rattle.rod.proofs.after_node.Statement.{statement}
 use Rattle.rod.proofs.after_node.Tie as tie
@@ -26,7 +26,7 @@ policy-value-requires : tie.Need-policy-value-requires
 policy-value-requires c κs =
     let m = c .before .before .before in
     let s = m .before .before .before in
-    (s .pre .0, s .pre .1, line-sets _ _ (s .pre .0) (s .pre .2 .node) _ _ (sym (ap kindMeaning (c .before .k .given .1)) ∙ m .kind-of .ensures))
+    (s .pre .0, policy-lines _ _ (s .pre .0) (s .pre .2 .node) _ _ (sym (ap kindMeaning (c .before .k .given .1)) ∙ m .kind-of .ensures) _ (s .pre .1))
 
 with-value-requires : tie.Need-with-value-requires
 with-value-requires c κs =

@@ -1,6 +1,5 @@
 -- `rod::policy_value`: each return by the tests that led there.
 use native.Mathlib.Omega.{arith}
-use Rattle.rod.specs.Values.{nodeEnd}
 use Rattle.rod.proofs.Lines.{value-quiet, value-turned, value-plain}
 use borrow.Author.Needs.{needs}
 use Rattle.rod.proofs.policy_value.Statement.{statement}
@@ -22,8 +21,7 @@ add-some-line : tie.Need-add-some-line
 add-some-line c = search needs
 
 some-line-requires : tie.Need-some-line-requires
-unfolding nodeEnd
-some-line-requires c κs = let s = c .before .before .before in (s .pre .1, s .pre .2)
+some-line-requires c κs = c .before .before .before .pre .1
 
 returns : tie.Need-returns
 returns c = value-turned _ _ (omega arith) (c .before .before .if1 .taken) (c .if2 .taken) _ (c .before .some-line .ensures)

@@ -3,7 +3,7 @@ use Prim.Native.Nat.{ℕ, _+_, _-_}
 use mathlib.Core.Path.{refl}
 use native.Mathlib.Omega.{arith}
 use denote.Ref.{now}
-use Rattle.rod.proofs.Lines.{Walk, walk-within, walk-found, walk-on, walk-end}
+use Rattle.rod.proofs.Lines.{Walk, walk-here, walk-found, walk-on, walk-end}
 use Rattle.rod.proofs.some_line.Statement.{statement}
 use Rattle.rod.proofs.some_line.Tie as tie
 
@@ -20,10 +20,10 @@ abbrev μ-loop2 : tie.MeasureT-loop2
 μ-loop2 words from end set i₀ i = end - i
 
 loop-holds : tie.Need-loop-holds Inv-loop μ-loop Inv-loop2 μ-loop2
-loop-holds c = let s = c .before in record { run = s .pre .0; sets = s .pre .1; same = refl }
+loop-holds c = let s = c .before in record { left = s .pre; same = refl }
 
 sub-loop : tie.Need-sub-loop Inv-loop μ-loop Inv-loop2 μ-loop2
-sub-loop c = omega (arith, c .loop .inv .run)
+sub-loop c = omega (arith, c .loop .inv .left .run)
 
 -- ---- four lines
 
@@ -33,7 +33,7 @@ module _ (l : tie.At-loop Inv-loop μ-loop Inv-loop2 μ-loop2) where
   Passed j = let a = l .before .before .args in Walk (now (a .words)) (a .from) (a .end) (a .set) (l .loop .i + j)
 
 is-inside-requires : tie.Need-is-inside-requires Inv-loop μ-loop Inv-loop2 μ-loop2
-is-inside-requires c κs = walk-within (c .before .loop .inv) (omega (arith, c .loop-test .taken))
+is-inside-requires c κs = walk-here (c .before .loop .inv) (omega (arith, c .loop-test .taken))
 
 returns : tie.Need-returns Inv-loop μ-loop Inv-loop2 μ-loop2
 returns c = let p = c .before in let t = p .before in walk-found (t .before .loop .inv) (omega (arith, t .loop-test .taken)) _ (p .is-inside .ensures) (c .if1 .taken)
@@ -48,7 +48,7 @@ add-is-inside : tie.Need-add-is-inside Inv-loop μ-loop Inv-loop2 μ-loop2
 add-is-inside c = omega arith
 
 is-inside-requires-2 : tie.Need-is-inside-requires-2 Inv-loop μ-loop Inv-loop2 μ-loop2
-is-inside-requires-2 c κs = walk-within (passed-1 c) (omega (arith, c .before .before .loop-test .taken))
+is-inside-requires-2 c κs = walk-here (passed-1 c) (omega (arith, c .before .before .loop-test .taken))
 
 returns-2 : tie.Need-returns-2 Inv-loop μ-loop Inv-loop2 μ-loop2
 returns-2 c =
@@ -66,7 +66,7 @@ add-is-inside-2 : tie.Need-add-is-inside-2 Inv-loop μ-loop Inv-loop2 μ-loop2
 add-is-inside-2 c = omega arith
 
 is-inside-requires-3 : tie.Need-is-inside-requires-3 Inv-loop μ-loop Inv-loop2 μ-loop2
-is-inside-requires-3 c κs = walk-within (passed-2 c) (omega (arith, c .before .before .before .before .loop-test .taken))
+is-inside-requires-3 c κs = walk-here (passed-2 c) (omega (arith, c .before .before .before .before .loop-test .taken))
 
 returns-3 : tie.Need-returns-3 Inv-loop μ-loop Inv-loop2 μ-loop2
 returns-3 c =
@@ -84,7 +84,7 @@ add-is-inside-3 : tie.Need-add-is-inside-3 Inv-loop μ-loop Inv-loop2 μ-loop2
 add-is-inside-3 c = omega arith
 
 is-inside-requires-4 : tie.Need-is-inside-requires-4 Inv-loop μ-loop Inv-loop2 μ-loop2
-is-inside-requires-4 c κs = walk-within (passed-3 c) (omega (arith, c .before .before .before .before .before .before .loop-test .taken))
+is-inside-requires-4 c κs = walk-here (passed-3 c) (omega (arith, c .before .before .before .before .before .before .loop-test .taken))
 
 returns-4 : tie.Need-returns-4 Inv-loop μ-loop Inv-loop2 μ-loop2
 returns-4 c =
@@ -110,7 +110,7 @@ loop2-holds : tie.Need-loop2-holds Inv-loop μ-loop Inv-loop2 μ-loop2
 loop2-holds c = c .before .loop .inv
 
 is-inside-requires-5 : tie.Need-is-inside-requires-5 Inv-loop μ-loop Inv-loop2 μ-loop2
-is-inside-requires-5 c κs = walk-within (c .before .loop2 .inv) (c .loop2-test .taken)
+is-inside-requires-5 c κs = walk-here (c .before .loop2 .inv) (c .loop2-test .taken)
 
 returns-5 : tie.Need-returns-5 Inv-loop μ-loop Inv-loop2 μ-loop2
 returns-5 c = let p = c .before in let t = p .before in walk-found (t .before .loop2 .inv) (t .loop2-test .taken) _ (p .is-inside5 .ensures) (c .if5 .taken)

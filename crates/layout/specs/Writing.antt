@@ -1,0 +1,34 @@
+-- Records written into lent words; record n, which counts from 1, has words (n - 1) * 4 to n * 4 - 1.
+use Prim.Native.Nat.{ℕ, _+_, _-_, _*_, _≤_, _<_}
+use mathlib.Core.Bool.{cond}
+use mathlib.Core.List.{List, [], _∷_, _++_}
+use mathlib.Core.Path.{_≡_}
+use lib.Dec.{eqb}
+use lib.ListN.{length, take, drop}
+use lib.Seq.{sets}
+use Rattle.layout.specs.Records.{Record, words, lineKind}
+
+-- record r written as record n: its four words, one after the other
+unfoldable pub putRecord : List ℕ → ℕ → Record → List ℕ
+putRecord ws n r = sets ws ((n - 1) * 4) (words (r ∷ []))
+
+-- records written one by one, the first of them as record n
+unfoldable pub putRecords : List ℕ → ℕ → List Record → List ℕ
+putRecords ws n [] = ws
+putRecords ws n (r ∷ rs) = putRecords (putRecord ws n r) (n + 1) rs
+
+-- a line as record n, where record `last` is the policy's last line
+unfoldable pub lineRecord : (last n mask : ℕ) → Record
+lineRecord last n mask = record { kind = lineKind; mask = mask; lines = 0; next = cond (eqb n last) 0 (n + 1) }
+
+-- lines with these masks from record n on
+unfoldable pub linesUpTo : ℕ → ℕ → List ℕ → List Record
+linesUpTo last n [] = []
+linesUpTo last n (m ∷ ms) = lineRecord last n m ∷ linesUpTo last (n + 1) ms
+
+-- claimed, and proved in proofs/WritingLaws.antt: where there is room, the words before record n stay, then come those of the
+-- records, and those after them stay
+abbrev pub PutInPlace : Type 0
+PutInPlace =
+    (ws : List ℕ) (n : ℕ) (rs : List Record) → 0 < n → (n - 1) * 4 + 4 * length rs ≤ length ws
+    → putRecords ws n rs ≡ take ((n - 1) * 4) ws ++ words rs ++ drop ((n - 1) * 4 + 4 * length rs) ws
