@@ -12,17 +12,17 @@ use Rattle.arith.specs.Trees.{leaf, join, Node, value, joining, postfix, mapTre
 use Rattle.arith.proofs.Order.{le-or-lt}
 use Rattle.layout.specs.Nodes.{ListedNode}
 use Rattle.peal.specs.Policies.{Policy, MinMax, smaller, Expression, Condition, Book, policyAt, maskOf}
-use Rattle.peal.specs.Lines.{lines}
 use Rattle.translation.specs.Translation.{joinOf, listed, translated}
 use Rattle.peal.specs.declared.Sense.{Sense}
 use Rattle.text.specs.Codes.{codeOf, codesOf}
-use Rattle.book.specs.Ranges.{PolicyInRange, ConditionKept}
+use Rattle.book.specs.Ranges.{PolicyKept, ConditionKept}
 use Rattle.book.proofs.RangeLaws.{policy-in-range}
 use Rattle.text.proofs.CodeLaws.{nodeOf, join-code, value-code, codes-nodes, code-node}
 use Rattle.book.proofs.MentionedPolicies.{mention-below}
 use Rattle.book.proofs.CellLaws.{condition-held, condition-range, same-codes, mention-held, mention-kept}
 use Rattle.compiler.specs.Planning.{ThresholdFits}
-use Rattle.compiler.specs.Nodes.{linesIn, listedNode, nodesOf, nodeAt, LinesKept}
+use Rattle.compiler.specs.Searching.{linesOf, LinesKept}
+use Rattle.compiler.specs.Nodes.{linesIn, listedNode, nodesOf, nodeAt}
 use Rattle.compiler.proofs.MentionLaws.{kept-few}
 
 -- the nodes of the listing are those of the expression
@@ -111,24 +111,27 @@ module _ {cells : List ℤ} {n : ℕ} (k : ConditionKept cells n) where
           ∙ ap (λ (m : ℕ). value (listed (d .sense) (d .threshold) (policyAt (k .book .policies) (m - 2)))) (sym code-of)
           ∙ ap₂ (λ (x : Sense) (y : ℤ). value (listed x y mentioned)) (sym e) (sym f)
 
-      pub mention-lines : (t : ℤ) → t ≡ k .condition .threshold → linesIn thisNode ≡ length (lines (mentioned .operator) t (mentioned .rules))
+      pub mention-lines : (t : ℤ) → t ≡ k .condition .threshold → linesIn thisNode ≡ length (linesOf t mentioned)
       unfolding linesIn listed
-      mention-lines t e = ap linesIn (mention-here (k .condition .sense) t refl e) ∙ length-map (lines (mentioned .operator) t (mentioned .rules)) maskOf
+      mention-lines t e = ap linesIn (mention-here (k .condition .sense) t refl e) ∙ length-map (linesOf t mentioned) maskOf
 
-      pub mention-range : i < size → PolicyInRange mentioned
-      mention-range h =
-          policy-in-range (k .book) (k .range) (code - 2) (omega (arith, mention-below (k .condition .expression) i (length (k .book .policies)) h (condition-range k .mentions)))
+      -- its policy, and how many lines it has
+      module _ (h : i < size) where
+        unfoldable pub policy-kept : PolicyKept cells (code - 2)
+        policy-kept =
+            let m = mention-kept k i h code told l in
+            record {
+              policy = mentioned;
+              below = m .below;
+              held = mention-held k i h code told l;
+              range =
+                  policy-in-range (k .book) (k .range) (code - 2)
+                  (omega (arith, mention-below (k .condition .expression) i (length (k .book .policies)) h (condition-range k .mentions)));
+            }
 
-      unfoldable pub lines-kept : i < size → (t : ℤ) → t ≡ k .condition .threshold → (count : ℕ) → count ≡ linesIn thisNode → LinesKept cells (code - 2) t count
-      lines-kept h t e count f =
-          record {
-            policy = mentioned;
-            inside = mention-kept k i h code told l .below;
-            held = mention-held k i h code told l;
-            range = mention-range h;
-            fits = threshold-fits t e;
-            counted = f ∙ mention-lines t e;
-          }
+        unfoldable pub lines-kept : (t : ℤ) → t ≡ k .condition .threshold → (count : ℕ) → count ≡ linesIn thisNode → LinesKept cells (code - 2) t count
+        unfolding policy-kept
+        lines-kept t e count f = record { kept = policy-kept; fits = threshold-fits t e; counted = f ∙ mention-lines t e }
 
   pub lines-few : (i : ℕ) → i < size → linesIn (nodeAt (k .book) (k .condition) i) ≤ 65536
   lines-few i h = ⊎-elim mention joined (le-or-lt 2 (codeAt i))

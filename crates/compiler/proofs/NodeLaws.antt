@@ -1,4 +1,4 @@
--- The records of nodes, one node behind the other.
+-- The records of nodes, one node after the other.
 use Prim.Native.Nat.{ℕ, suc, _+_}
 use mathlib.Core.Bool.{Bool, cond}
 use mathlib.Core.List.{List, [], _∷_, _++_}
@@ -11,10 +11,10 @@ use Rattle.arith.specs.Trees.{value, joining}
 use Rattle.layout.specs.Records.{joinKind}
 use Rattle.layout.specs.Judgement.{ifAny}
 use Rattle.layout.specs.Nodes.{ListedNode, nodeRecords}
+use Rattle.layout.specs.Writing.{putRecords}
 use Rattle.layout.proofs.WordsBelow.{lines-count}
-use Rattle.compiler.specs.Putting.{putRecords}
+use Rattle.layout.proofs.WritingLaws.{put-append}
 use Rattle.compiler.specs.Nodes.{linesIn, oneNode}
-use Rattle.compiler.proofs.PuttingLaws.{put-append}
 
 pub if-any : {A : Type 0} (xs : List A) (n : ℕ) → cond (ltb 0 (length xs)) n 0 ≡ ifAny xs n
 unfolding ifAny

@@ -9,10 +9,10 @@ use lib.Seq.{drop-cons}
 use Rattle.signals.specs.Sets.{setOf}
 use Rattle.layout.specs.Records.{exclusionKind}
 use Rattle.layout.specs.Nodes.{exclusionRecords}
+use Rattle.layout.specs.Writing.{putRecord, putRecords}
 use Rattle.peal.specs.Policies.{Exclusion}
-use Rattle.peal.specs.Standins.{noExclusion}
 use Rattle.translation.specs.Translation.{pairMask}
-use Rattle.compiler.specs.Putting.{putRecord, putRecords}
+use Rattle.peal.specs.Standins.{noExclusion}
 
 -- the bits of two signals make the mask of their pair
 pub two-bits : {f s p q : ℕ} (x : Exclusion) → f ≡ x .first → s ≡ x .second → p ≡ setOf (f ∷ []) → q ≡ setOf (s ∷ []) → p + q ≡ pairMask x

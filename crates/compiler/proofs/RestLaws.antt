@@ -23,7 +23,7 @@ use Rattle.book.specs.Acceptance.{within, scoreInRange}
 use Rattle.book.specs.declared.cells.Policy.{Policy as StoredPolicy}
 use Rattle.book.proofs.StoredRules.{count-is}
 use Rattle.book.proofs.ScoreSizes.{score-mag, InScore, InRange, Room}
-use Rattle.compiler.specs.Worth.{start, worth}
+use Rattle.compiler.specs.Worth.{initial, worth}
 use Rattle.compiler.specs.Planning.{restOf, nextRule, RulesInRange, RulesKept}
 use Rattle.compiler.proofs.WorthLaws.{product-worth}
 
@@ -37,7 +37,7 @@ bound Sum n = 10001 * n
 bound Mul n = 100 ^ n
 
 worth-mag : (o : Operator) (X : List Rule) → InRange o X → mag (worth o X) ≤ bound o (length X)
-unfolding worth start combinedOf scoreInRange within scoreFits
+unfolding worth initial combinedOf scoreInRange within scoreFits
 worth-mag Min [] h = omega arith
 worth-mag Min (r ∷ X) h = one-of-two (λ (z : ℤ). mag z ≤ 200001) smaller (r .score) (worth Min X) (omega (arith, score-mag Min (r .score) (h .0))) (worth-mag Min X (h .1))
 worth-mag Max [] h = omega arith
@@ -80,9 +80,9 @@ module _ (rules : List Rule) where
 
 -- ---- the worth of the rules of lowest rank
 
-pub rest-start : (o : Operator) (rules : List Rule) → start o ≡ worth o (restOf 0 rules)
+pub rest-initial : (o : Operator) (rules : List Rule) → initial o ≡ worth o (restOf 0 rules)
 unfolding worth
-rest-start o rules = sym (ap (worth o) (no-rest rules))
+rest-initial o rules = sym (ap (worth o) (no-rest rules))
 
 pub rest-next : (o : Operator) (rules : List Rule) (k : ℕ) → k < length rules → (v w : ℤ) → v ≡ getD rules (length rules - (k + 1)) noRule .score → w ≡ worth o (restOf k rules)
     → combinedOf o v w ≡ worth o (restOf (k + 1) rules)

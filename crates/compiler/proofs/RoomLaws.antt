@@ -1,59 +1,23 @@
--- Records written where there is room for all of them, and what compiling then answers.
-use Prim.Native.Nat.{ℕ, suc, _+_, _-_, _*_, _≤_, _<_}
-use mathlib.Core.List.{List, [], _∷_, _++_}
-use mathlib.Core.Logic.{⊎-elim}
-use mathlib.Core.Path.{_≡_, refl, sym, ap, _∙_}
+-- Room for records, and what compiling answers by whether there is room.
+use Prim.Native.Nat.{ℕ, _+_, _*_, _≤_, _<_}
+use mathlib.Core.List.{List}
+use mathlib.Core.Path.{_≡_, sym, ap, _∙_}
 use native.Mathlib.Omega.{arith}
-use lib.ListN.{length, drop}
+use lib.ListN.{length}
 use borrow.Author.Tests.{le-leb, lt-leb}
 use Rattle.answers.specs.Answers.{result, refused}
-use Rattle.arith.proofs.Order.{le-or-lt}
 use Rattle.layout.specs.Records.{Record, words}
+use Rattle.layout.specs.Writing.{putRecords}
 use Rattle.layout.proofs.WordLaws.{length-words}
+use Rattle.layout.proofs.WritingLaws.{put-first}
 use Rattle.compiler.specs.Compiling.{fitting, returned, lentAfter}
-use Rattle.compiler.specs.Putting.{putRecord, putRecords}
+use Rattle.compiler.specs.Room.{RoomFor}
 
--- ---- four words in front are passed over
+-- ---- a part of the records that have room
 
-on-four : (n d : ℕ) → 0 < n → d ≤ 4 → (n + 1) * 4 - d ≡ suc (suc (suc (suc (n * 4 - d))))
-on-four n d h k = omega arith
-
-module _ (a b c d : ℕ) where
-  behind-one : (w : List ℕ) (n : ℕ) (r : Record) → 0 < n → putRecord (a ∷ b ∷ c ∷ d ∷ w) (n + 1) r ≡ a ∷ b ∷ c ∷ d ∷ putRecord w n r
-  unfolding putRecord
-  behind-one w n r h =
-      let size : ℕ = suc (suc (suc (suc (length w)))) in
-      ⊎-elim
-      (λ (x : n * 4 ≤ length w).
-      rw (
-        le-leb ((n + 1) * 4) size (omega arith),
-        le-leb (n * 4) (length w) x,
-        on-four n 4 h (omega arith),
-        on-four n 3 h (omega arith),
-        on-four n 2 h (omega arith),
-        on-four n 1 h (omega arith),
-      ))
-      (λ (x : length w < n * 4). rw (lt-leb ((n + 1) * 4) size (omega arith), lt-leb (n * 4) (length w) x))
-      (le-or-lt (n * 4) (length w))
-
-  behind-all : (rs : List Record) (w : List ℕ) (n : ℕ) → 0 < n → putRecords (a ∷ b ∷ c ∷ d ∷ w) (n + 1) rs ≡ a ∷ b ∷ c ∷ d ∷ putRecords w n rs
-  unfolding putRecords
-  behind-all [] w n h = refl
-  behind-all (r ∷ rs) w n h = ap (λ (v : List ℕ). putRecords v (n + 1 + 1) rs) (behind-one w n r h) ∙ behind-all rs (putRecord w n r) (n + 1) (omega arith)
-
--- ---- all records
-
-put-all : (rs : List Record) (w : List ℕ) → length (words rs) ≤ length w → putRecords w 1 rs ≡ words rs ++ drop (length (words rs)) w
-unfolding putRecords putRecord words
-put-all [] w h = refl
-put-all (r ∷ rs) [] h = absurd (omega arith)
-put-all (r ∷ rs) (a ∷ []) h = absurd (omega arith)
-put-all (r ∷ rs) (a ∷ b ∷ []) h = absurd (omega arith)
-put-all (r ∷ rs) (a ∷ b ∷ c ∷ []) h = absurd (omega arith)
-put-all (r ∷ rs) (a ∷ b ∷ c ∷ d ∷ w) h =
-    rw (le-leb 4 (suc (suc (suc (suc (length w))))) (omega arith))
-    (behind-all (r .kind) (r .mask) (r .lines) (r .next) rs w 1 (omega arith)
-    ∙ ap (λ (v : List ℕ). r .kind ∷ r .mask ∷ r .lines ∷ r .next ∷ v) (put-all rs w (omega arith)))
+pub room-part : {first count : ℕ} {words : List ℕ} → RoomFor first count words → (n m : ℕ) → 0 < n → n + m ≤ first + count → {later : List ℕ} → length later ≡ length words
+    → RoomFor n m later
+room-part h n m some inside same = record { begins = some; numbers = omega (arith, h .numbers); inside = omega (arith, h .begins, h .inside) }
 
 -- ---- the answers
 
@@ -69,7 +33,7 @@ module _ (rs : List Record) (lent : List ℕ) where
 
     pub room-lent : putRecords lent 1 rs ≡ lentAfter lent (fitting (length lent) rs)
     unfolding lentAfter
-    room-lent = put-all rs lent (omega (arith, length-words rs)) ∙ sym (ap (lentAfter lent) fits)
+    room-lent = put-first lent rs (omega arith) ∙ sym (ap (lentAfter lent) fits)
 
   module _ (h : length lent < length rs * 4) where
     does-not-fit : fitting (length lent) rs ≡ refused 8 0

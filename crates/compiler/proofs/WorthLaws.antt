@@ -24,7 +24,7 @@ use Rattle.peal.specs.declared.Operator.the-variants.{Min, Max, Sum, Mul}
 use Rattle.peal.proofs.HavingLaws.{product-natural}
 use Rattle.peal.proofs.TwoLaws.{larger-above, smaller-at-most, two-assoc, two-swap, two-itself}
 use Rattle.limits.specs.Limits.{within, thresholdInRange}
-use Rattle.compiler.specs.Worth.{start, worth, clamped, limitOf, reachedOf}
+use Rattle.compiler.specs.Worth.{initial, worth, clamped, limitOf, reachedOf}
 
 -- ---- an operator takes three scores in any grouping
 
@@ -37,25 +37,24 @@ combined-assoc Min a b c = two-assoc smaller a b c
 
 -- ---- the worth of sets put together
 
--- an operator's start changes nothing in front of a worth
--- the start once more in front changes nothing
-once-more : (m : MinMax) (o : Operator) → ((v w : ℤ) → combinedOf o v w ≡ ofTwo m v w) → (X : List Rule) → combinedOf o (start o) (worth o X) ≡ worth o X
+-- what an operator has over no score changes nothing in front of a worth
+once-more : (m : MinMax) (o : Operator) → ((v w : ℤ) → combinedOf o v w ≡ ofTwo m v w) → (X : List Rule) → combinedOf o (initial o) (worth o X) ≡ worth o X
 unfolding worth
-once-more m o f [] = f (start o) (start o) ∙ two-itself m (start o)
+once-more m o f [] = f (initial o) (initial o) ∙ two-itself m (initial o)
 once-more m o f (r ∷ X) =
-    ap (combinedOf o (start o)) (f (r .score) (worth o X)) ∙ f (start o) (ofTwo m (r .score) (worth o X)) ∙ two-swap m (start o) (r .score) (worth o X)
-    ∙ ap (ofTwo m (r .score)) (sym (f (start o) (worth o X)) ∙ once-more m o f X) ∙ sym (f (r .score) (worth o X))
+    ap (combinedOf o (initial o)) (f (r .score) (worth o X)) ∙ f (initial o) (ofTwo m (r .score) (worth o X)) ∙ two-swap m (initial o) (r .score) (worth o X)
+    ∙ ap (ofTwo m (r .score)) (sym (f (initial o) (worth o X)) ∙ once-more m o f X) ∙ sym (f (r .score) (worth o X))
 
-start-first : (o : Operator) (X : List Rule) → combinedOf o (start o) (worth o X) ≡ worth o X
-unfolding combinedOf start
-start-first Sum X = +ℤ-idl (worth Sum X)
-start-first Mul X = *ℤ-comm (pos 1) (worth Mul X) ∙ times-one (worth Mul X)
-start-first Max X = once-more larger Max (λ v w. refl) X
-start-first Min X = once-more smaller Min (λ v w. refl) X
+initial-first : (o : Operator) (X : List Rule) → combinedOf o (initial o) (worth o X) ≡ worth o X
+unfolding combinedOf initial
+initial-first Sum X = +ℤ-idl (worth Sum X)
+initial-first Mul X = *ℤ-comm (pos 1) (worth Mul X) ∙ times-one (worth Mul X)
+initial-first Max X = once-more larger Max (λ v w. refl) X
+initial-first Min X = once-more smaller Min (λ v w. refl) X
 
 pub worth-append : (o : Operator) (X Y : List Rule) → worth o (X ++ Y) ≡ combinedOf o (worth o X) (worth o Y)
 unfolding worth
-worth-append o [] Y = sym (start-first o Y)
+worth-append o [] Y = sym (initial-first o Y)
 worth-append o (r ∷ X) Y = ap (combinedOf o (r .score)) (worth-append o X Y) ∙ sym (combined-assoc o (r .score) (worth o X) (worth o Y))
 
 -- ---- the limit
@@ -86,12 +85,12 @@ not-below-zero a zero h = absurd (omega arith)
 not-below-zero a (suc m) h = refl
 
 pub product-worth : (X : List Rule) → scoreProduct X ≡ worth Mul X
-unfolding scoreProduct worth start combinedOf
+unfolding scoreProduct worth initial combinedOf
 product-worth [] = refl
 product-worth (r ∷ X) = ap (λ (z : ℤ). r .score *ℤ z) (product-worth X)
 
 total-worth : (X : List Rule) → total X ≡ worth Sum X
-unfolding total worth start combinedOf
+unfolding total worth initial combinedOf
 total-worth [] = refl
 total-worth (r ∷ X) = ap (λ (z : ℤ). r .score +ℤ z) (total-worth X)
 
@@ -107,23 +106,23 @@ mul-limit n k (pos t) few h = rw (le-ltb t 0 (omega arith)) (go (ltb 100 t) refl
         ∙ sym (le-leb (n * 100 ^ (8 - k)) (t * 10 ^ 14) (omega (arith, ltb-true 100 t e, all-eight k few, mul-le-mul-right (100 ^ (8 - k)) h, mul-comm (100 ^ k) (100 ^ (8 - k)))))
     go false e = sym (same-parts n k t few)
 
--- thresholds lie between the starts of max and min
-not-above-start : (t : ℤ) → thresholdInRange t ≡ true → ltZ t (start Max) ≡ false
-unfolding within start
-not-above-start (pos t) h = refl
-not-above-start (negsuc t) h = le-ltb 200000 t (omega (arith, leb-true t 199999 (and-left (leb t 199999) true h)))
+-- thresholds lie between what max and min have over no score
+not-above-initial : (t : ℤ) → thresholdInRange t ≡ true → ltZ t (initial Max) ≡ false
+unfolding within initial
+not-above-initial (pos t) h = refl
+not-above-initial (negsuc t) h = le-ltb 200000 t (omega (arith, leb-true t 199999 (and-left (leb t 199999) true h)))
 
-not-at-start : (t : ℤ) → thresholdInRange t ≡ true → leZ (start Min) t ≡ false
-unfolding within start
-not-at-start (pos t) h = lt-leb 200001 t (omega (arith, leb-true t 200000 h))
-not-at-start (negsuc t) h = refl
+not-at-initial : (t : ℤ) → thresholdInRange t ≡ true → leZ (initial Min) t ≡ false
+unfolding within initial
+not-at-initial (pos t) h = lt-leb 200001 t (omega (arith, leb-true t 200000 h))
+not-at-initial (negsuc t) h = refl
 
-max-exists : (t : ℤ) → ltZ t (start Max) ≡ false → (X : List Rule) → ltZ t (worth Max X) ≡ exists (scoreAbove t) X
+max-exists : (t : ℤ) → ltZ t (initial Max) ≡ false → (X : List Rule) → ltZ t (worth Max X) ≡ exists (scoreAbove t) X
 unfolding worth combinedOf
 max-exists t h [] = h
 max-exists t h (r ∷ X) = larger-above t (r .score) (worth Max X) ∙ ap (λ (b : Bool). ltZ t (r .score) || b) (max-exists t h X)
 
-min-exists : (t : ℤ) → leZ (start Min) t ≡ false → (X : List Rule) → leZ (worth Min X) t ≡ exists (scoreAtMost t) X
+min-exists : (t : ℤ) → leZ (initial Min) t ≡ false → (X : List Rule) → leZ (worth Min X) t ≡ exists (scoreAtMost t) X
 unfolding worth combinedOf
 min-exists t h [] = h
 min-exists t h (r ∷ X) = smaller-at-most t (r .score) (worth Min X) ∙ ap (λ (b : Bool). leZ (r .score) t || b) (min-exists t h X)
@@ -133,8 +132,8 @@ pub worth-has : (o : Operator) (t : ℤ) (X : List Rule) → RulesFit o X → th
     → reachedOf o (limitOf o t (length X)) (worth o X) ≡ has o t X
 unfolding reachedOf limitOf has scaledProduct scaled
 worth-has Sum t X f h = ap (ltZ t) (sym (total-worth X))
-worth-has Max t X f h = max-exists t (not-above-start t h) X
-worth-has Min t X f h = min-exists t (not-at-start t h) X
+worth-has Max t X f h = max-exists t (not-above-initial t h) X
+worth-has Min t X f h = min-exists t (not-at-initial t h) X
 worth-has Mul t X f h =
     let n = product-natural X (f .scores) in
     ap (λ (z : ℤ). leZ (z *ℤ pos 100) (limitOf Mul t (length X))) (sym (product-worth X) ∙ n .1)

@@ -1,8 +1,8 @@
 pub mod Compiling
 pub mod Meaning
-pub mod Worth
-pub mod Putting
 pub mod Computing
+pub mod Worth
 pub mod Planning
+pub mod Room
 pub mod Searching
 pub mod Nodes

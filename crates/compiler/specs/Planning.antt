@@ -4,7 +4,8 @@ use mathlib.Core.Bool.{true}
 use mathlib.Core.List.{List, [], _∷_}
 use mathlib.Core.Path.{_≡_}
 use lib.IntN.{ℤ, pos}
-use lib.ListN.{length, getD, set, drop}
+use lib.ListN.{length, getD, drop}
+use lib.Seq.{sets}
 use Rattle.arith.specs.Members.{Each}
 use Rattle.signals.specs.Sets.{setOf}
 use Rattle.peal.specs.Policies.{Rule, Policy}
@@ -41,19 +42,34 @@ pub record RulesKept (p : StoredPolicy) : Type 0 where
   pub held : p ≡ storedPolicy policy
   pub range : RulesInRange (policy .operator) (policy .rules)
 
--- ---- the plan, four cells for each number k of rules
+-- ---- the plan: a row of four cells for each number k of rules
+
+-- the limit of the sets of k rules
+abbrev pub limitIn : List ℤ → ℕ → ℤ
+limitIn plan k = getD plan (k * 4) (pos 0)
+
+-- the operator over the k rules of lowest rank
+abbrev pub restIn : List ℤ → ℕ → ℤ
+restIn plan k = getD plan (k * 4 + 1) (pos 0)
+
+-- the score of the first of these
+abbrev pub scoreIn : List ℤ → ℕ → ℤ
+scoreIn plan k = getD plan (k * 4 + 2) (pos 0)
+
+-- its bit
+abbrev pub bitIn : List ℤ → ℕ → ℤ
+bitIn plan k = getD plan (k * 4 + 3) (pos 0)
 
 -- row k written
 unfoldable pub withRow : List ℤ → ℕ → (limit rest score bit : ℤ) → List ℤ
-withRow plan k limit rest score bit =
-    set (set (set (set plan (k * 4) limit) (k * 4 + 1) rest) (k * 4 + 2) score) (k * 4 + 3) bit
+withRow plan k limit rest score bit = sets plan (k * 4) (limit ∷ rest ∷ score ∷ bit ∷ [])
 
 -- what row k holds; of no rules there is no first
 pub record Row (plan : List ℤ) (q : Policy) (t : ℤ) (k : ℕ) : Type 0 where
-  pub limit : getD plan (k * 4) (pos 0) ≡ limitOf (q .operator) t k
-  pub rest : getD plan (k * 4 + 1) (pos 0) ≡ worth (q .operator) (restOf k (q .rules))
-  pub score : 0 < k → getD plan (k * 4 + 2) (pos 0) ≡ nextRule q k .score
-  pub bit : 0 < k → getD plan (k * 4 + 3) (pos 0) ≡ pos (setOf (nextRule q k .signal ∷ []))
+  pub limit : limitIn plan k ≡ limitOf (q .operator) t k
+  pub rest : restIn plan k ≡ worth (q .operator) (restOf k (q .rules))
+  pub score : 0 < k → scoreIn plan k ≡ nextRule q k .score
+  pub bit : 0 < k → bitIn plan k ≡ pos (setOf (nextRule q k .signal ∷ []))
 
 -- the plan is that of a policy with this operator, whose rules stand in falling rank, under threshold t
 pub record PlanFor (o : Operator) (plan : List ℤ) (q : Policy) (t : ℤ) : Type 0 where
@@ -61,3 +77,7 @@ pub record PlanFor (o : Operator) (plan : List ℤ) (q : Policy) (t : ℤ) : Typ
   pub range : RulesInRange (q .operator) (q .rules)
   pub fits : ThresholdFits t
   pub rows : (k : ℕ) → k ≤ length (q .rules) → Row plan q t k
+
+-- the same of a stored policy
+abbrev pub PlanOf : StoredPolicy → ℤ → List ℤ → Type 0
+PlanOf p t plan = (q : Policy) → p ≡ storedPolicy q → RulesInRange (q .operator) (q .rules) → PlanFor (p .operator) plan q t

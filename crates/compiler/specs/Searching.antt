@@ -1,75 +1,108 @@
 -- The search as the code makes it: the rules taken so far, and what is found from there.
 use Prim.Native.Nat.{ℕ, _+_, _^_, _≤_, _<_}
 use mathlib.Core.Bool.{Bool}
-use mathlib.Core.List.{List, _++_}
+use mathlib.Core.List.{List, [], _∷_, _++_, map}
 use mathlib.Core.Path.{_≡_}
-use lib.IntN.{ℤ}
+use lib.Dec.{T}
+use lib.IntN.{ℤ, natAbs}
 use lib.ListN.{length}
+use lib.Signed.{nonNeg}
+use Rattle.layout.specs.Nodes.{lineRecords}
+use Rattle.layout.specs.Writing.{putRecords, linesUpTo}
 use Rattle.peal.specs.Policies.{Rule, Policy, maskOf}
 use Rattle.peal.specs.Lines.{lines, has}
 use Rattle.peal.specs.Search.{foundFrom}
 use Rattle.peal.specs.declared.Operator.{Operator}
-use Rattle.book.specs.Ranges.{PolicyInRange}
-use Rattle.book.specs.Cells.{storedPolicy}
-use Rattle.book.specs.declared.cells.Policy.{Policy as StoredPolicy}
-use Rattle.compiler.specs.Putting.{putSets}
+use Rattle.book.specs.Ranges.{PolicyKept}
 use Rattle.compiler.specs.Worth.{worth}
-use Rattle.compiler.specs.Planning.{restOf, RulesInRange, PlanFor}
+use Rattle.compiler.specs.Planning.{ThresholdFits, restOf, nextRule, RulesInRange, PlanFor}
+use Rattle.compiler.specs.Room.{RoomFor}
 
--- the rules X are so many, and worth so much
-pub record IsTaken (n : ℕ) (v : ℤ) (o : Operator) (X : List Rule) : Type 0 where
-  pub count : n ≡ length X
-  pub value : v ≡ worth o X
+-- a point of the search: a policy whose rules stand in falling rank, a threshold, and the rules taken
+pub record Point : Type 0 where
+  pub policy : Policy
+  pub threshold : ℤ
+  pub taken : List Rule
 
--- the plan is that of policy q under threshold t; the rules X are taken; the `left` rules of lowest rank are still to come
-pub record Searching (o : Operator) (plan : List ℤ) (n : ℕ) (v : ℤ) (left : ℕ) (q : Policy) (t : ℤ) (X : List Rule) : Type 0 where
-  pub planned : PlanFor o plan q t
-  pub taken : IsTaken n v (q .operator) X
-  pub inside : length X + left ≤ length (q .rules)
-  pub range : RulesInRange (q .operator) (X ++ restOf left (q .rules))
+-- some rules have the property that a line must have
+abbrev pub having : Point → List Rule → Bool
+having p X = has (p .policy .operator) (p .threshold) X
 
--- beside that, m is the mask of the rules taken
-pub record Masked (o : Operator) (plan : List ℤ) (m n : ℕ) (v : ℤ) (left : ℕ) (q : Policy) (t : ℤ) (X : List Rule) : Type 0 where
-  pub searching : Searching o plan n v left q t X
-  pub mask : m ≡ maskOf X
+-- the rules taken and the `left` rules of lowest rank, which are still to come
+abbrev pub allAt : Point → ℕ → List Rule
+allAt p left = p .taken ++ restOf left (p .policy .rules)
 
--- the sets found beyond X with the `left` rules of lowest rank
-unfoldable pub found : Policy → ℤ → List Rule → ℕ → List (List Rule)
-found q t X left = foundFrom (has (q .operator) t) X (restOf left (q .rules))
+-- the first of those is taken too
+abbrev pub taking : Point → ℕ → Point
+taking p left = record { policy = p .policy; threshold = p .threshold; taken = p .taken ++ (nextRule (p .policy) left ∷ []) }
 
--- some policy, threshold and rules taken make it so
+-- the sets found beyond the rules taken, with the rules still to come
+unfoldable pub found : Point → ℕ → List (List Rule)
+found p left = foundFrom (having p) (p .taken) (restOf left (p .policy .rules))
+
+-- `count` rules are taken and worth `value`, `left` are still to come, and the plan is that of the policy and the threshold
+pub record Searching (o : Operator) (plan : List ℤ) (count : ℕ) (value : ℤ) (left : ℕ) (p : Point) : Type 0 where
+  pub planned : PlanFor o plan (p .policy) (p .threshold)
+  pub counted : count ≡ length (p .taken)
+  pub valued : value ≡ worth (p .policy .operator) (p .taken)
+  pub inside : length (p .taken) + left ≤ length (p .policy .rules)
+  pub range : RulesInRange (p .policy .operator) (p .taken)
+
+-- the search is at some point
 abbrev pub CanSearch : Operator → List ℤ → ℕ → ℤ → ℕ → Type 0
-CanSearch o plan n v left = (q : Policy) × (t : ℤ) × (X : List Rule) × Searching o plan n v left q t X
+CanSearch o plan count value left = (p : Point) × Searching o plan count value left p
 
--- the same with a mask, and every set found from record `at` on has a number below 2 to the 32
-abbrev pub CanPut : Operator → List ℤ → ℕ → ℕ → ℤ → ℕ → ℕ → Type 0
-CanPut o plan m n v left at =
-    (q : Policy) × (t : ℤ) × (X : List Rule) × Masked o plan m n v left q t X × (at + length (found q t X left) < 2 ^ 32)
+-- so it is at whatever point the search is
+abbrev pub ForPoints : Operator → List ℤ → ℕ → ℤ → ℕ → (Point → Type 0) → Type 0
+ForPoints o plan count value left P = (p : Point) → Searching o plan count value left p → P p
 
--- ---- what the functions of the search tell, of whatever policy, threshold and rules taken make it so
+-- ---- what is found, as lines
 
--- whether the rules taken and all still to come have the property together
-abbrev pub CanReach : Operator → List ℤ → ℕ → ℤ → ℕ → Bool → Type 0
-CanReach o plan n v left b =
-    (q : Policy) (t : ℤ) (X : List Rule) → Searching o plan n v left q t X → b ≡ has (q .operator) t (X ++ restOf left (q .rules))
+-- a bit that can be added to a mask
+pub record BitFits (mask : ℕ) (bit : ℤ) : Type 0 where
+  pub plain : T (nonNeg bit)
+  pub sum : mask + natAbs bit < 2 ^ 32
 
--- whether the rules taken have it
-abbrev pub HasReached : Operator → List ℤ → ℕ → ℤ → Bool → Type 0
-HasReached o plan n v b = (q : Policy) (t : ℤ) (X : List Rule) → Searching o plan n v 0 q t X → b ≡ has (q .operator) t X
+-- sets of rules written as lines from record n on, where record `last` is the policy's last line
+unfoldable pub putSets : (last : ℕ) → List ℕ → ℕ → List (List Rule) → List ℕ
+putSets last words n sets = putRecords words n (linesUpTo last n (map maskOf sets))
 
--- how many sets are found
-abbrev pub FoundCount : Operator → List ℤ → ℕ → ℤ → ℕ → ℕ → Type 0
-FoundCount o plan n v left sets = (q : Policy) (t : ℤ) (X : List Rule) → Searching o plan n v left q t X → sets ≡ length (found q t X left)
+-- the search is at some point, the mask is that of the rules taken, and the sets found have room as lines from record `at` on
+abbrev pub CanPut : Operator → List ℤ → (mask count : ℕ) → ℤ → (rank at : ℕ) → List ℕ → Type 0
+CanPut o plan mask count value rank at words =
+    (p : Point) × Searching o plan count value rank p × (mask ≡ maskOf (p .taken)) × RoomFor at (length (found p rank)) words
 
--- which record comes after these sets, as lines from record `at` on
-abbrev pub FoundEnd : Operator → List ℤ → ℕ → ℕ → ℤ → ℕ → (at next : ℕ) → Type 0
-FoundEnd o plan m n v left at next = (q : Policy) (t : ℤ) (X : List Rule) → Masked o plan m n v left q t X → next ≡ at + length (found q t X left)
+-- these sets are put into the words, and `next` is the record after them
+pub record SetsPut (last at : ℕ) (before : List ℕ) (sets : List (List Rule)) (next : ℕ) (after : List ℕ) : Type 0 where
+  pub number : next ≡ at + length sets
+  pub words : after ≡ putSets last before at sets
 
--- what words they leave
-abbrev pub FoundPut : Operator → List ℤ → ℕ → ℕ → ℤ → ℕ → (at last : ℕ) → (before after : List ℕ) → Type 0
-FoundPut o plan m n v left at last before after =
-    (q : Policy) (t : ℤ) (X : List Rule) → Masked o plan m n v left q t X → after ≡ putSets last before at (found q t X left)
+-- so the sets found are, at whatever point with that mask the search is
+abbrev pub FoundPut : Operator → List ℤ → (mask count : ℕ) → ℤ → (rank last at : ℕ) → List ℕ → ℕ → List ℕ → Type 0
+FoundPut o plan mask count value rank last at before next after =
+    (p : Point) → Searching o plan count value rank p → mask ≡ maskOf (p .taken) → SetsPut last at before (found p rank) next after
 
--- P holds of the lines of the policy that is stored
-abbrev pub OfLines : StoredPolicy → ℤ → (List (List Rule) → Type 0) → Type 0
-OfLines p t P = (q : Policy) → p ≡ storedPolicy q → PolicyInRange q → P (lines (q .operator) t (q .rules))
+-- ---- the lines of a policy
+
+-- the lines of a policy under threshold t
+abbrev pub linesOf : ℤ → Policy → List (List Rule)
+linesOf t p = lines (p .operator) t (p .rules)
+
+-- P holds of the lines of policy k
+abbrev pub OfLines : List ℤ → ℕ → ℤ → (List (List Rule) → Type 0) → Type 0
+OfLines cells k t P = (h : PolicyKept cells k) → P (linesOf t (h .policy))
+
+-- the cells of policy k are those of one in range, which has so many lines under threshold t
+pub record LinesKept (cells : List ℤ) (k : ℕ) (t : ℤ) (count : ℕ) : Type 0 where
+  pub kept : PolicyKept cells k
+  pub fits : ThresholdFits t
+  pub counted : count ≡ length (linesOf t (kept .policy))
+
+-- so it is for each policy that these cells may be of
+abbrev pub ForLines : List ℤ → ℕ → ℤ → ℕ → (Policy → Type 0) → Type 0
+ForLines cells k t count P = (h : LinesKept cells k t count) → P (h .kept .policy)
+
+-- the records of its lines are put into the words, from record `at` on
+abbrev pub LinesPut : List ℤ → ℕ → ℤ → (count at : ℕ) → (before after : List ℕ) → Type 0
+LinesPut cells k t count at before after =
+    ForLines cells k t count (λ p. after ≡ putRecords before at (lineRecords at (map maskOf (linesOf t p))))

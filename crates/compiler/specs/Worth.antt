@@ -1,7 +1,8 @@
 -- How the code tells whether a set of rules has the property of its operator: from the operator over their scores, and a limit.
-use Prim.Native.Nat.{ℕ, _^_}
+use Prim.Native.Nat.{ℕ, _+_, _^_}
 use mathlib.Core.Bool.{Bool, cond}
 use mathlib.Core.List.{List, [], _∷_}
+use mathlib.Core.Path.{_≡_}
 use lib.IntN.{ℤ, pos, negsuc, negℤ, _*ℤ_}
 use lib.Signed.{leZ, ltZ}
 use Rattle.peal.specs.Policies.{Rule}
@@ -9,16 +10,20 @@ use Rattle.peal.specs.Combining.{combinedOf}
 use Rattle.peal.specs.declared.Operator.{Operator}
 use Rattle.peal.specs.declared.Operator.the-variants.{Min, Max, Sum, Mul}
 
--- where an operator starts: beyond every threshold in max and min
-unfoldable pub start : Operator → ℤ
-start Sum = pos 0
-start Mul = pos 1
-start Max = negℤ (pos 200001)
-start Min = pos 200001
+-- above every threshold; its opposite is below every one
+abbrev pub aboveAll : ℤ
+aboveAll = pos 200001
+
+-- the operator over no score: beyond every threshold in max and min
+unfoldable pub initial : Operator → ℤ
+initial Sum = pos 0
+initial Mul = pos 1
+initial Max = negℤ aboveAll
+initial Min = aboveAll
 
 -- the operator over the scores of some rules, in hundredths; in mul the bare product
 unfoldable pub worth : Operator → List Rule → ℤ
-worth o [] = start o
+worth o [] = initial o
 worth o (r ∷ rs) = combinedOf o (r .score) (worth o rs)
 
 -- T, but at least -1 and at most 100: beyond that no product of scores tells a difference
@@ -31,6 +36,10 @@ limitOf Sum t k = t
 limitOf Max t k = t
 limitOf Min t k = t
 limitOf Mul t k = clamped t *ℤ pos (100 ^ k)
+
+-- from the limit for k rules, the limit for one more
+abbrev pub NextLimit : Operator → (limit next : ℤ) → Type 0
+NextLimit o limit next = (t : ℤ) (k : ℕ) → limit ≡ limitOf o t k → next ≡ limitOf o t (k + 1)
 
 -- a value is on the side of the limit that counts
 unfoldable pub reachedOf : Operator → ℤ → ℤ → Bool

@@ -1,18 +1,15 @@
 // The records of the book's exclusions, with which every listing begins.
 // For this crate only: no other can name these functions, and each call is proved to meet its condition.
-use crate::writing::put_record;
 ghost use mathlib.Core.Path.{_≡_};
-ghost use Prim.Native.Nat.{_<_};
-ghost use lib.ListN.{length, getD};
+ghost use lib.ListN.{getD};
 ghost use Rattle.peal.specs.Standins.{noExclusion};
 ghost use Rattle.translation.specs.Translation.{pairMask};
 ghost use Rattle.book.specs.Cells.{ForExclusions};
-ghost use Rattle.book.specs.Ranges.{ExclusionsKept};
-ghost use Rattle.compiler.specs.Nodes.{ExclusionsPut};
+ghost use Rattle.compiler.specs.Nodes.{ExclusionKept, ExclusionsFit, ExclusionsPut};
 
 // The set of the two signals of exclusion i.
 fn pair_mask(cells: &book::Cells, i: usize) -> u32
-    requires { ⌜ ((h : ExclusionsKept (now cells)) × (i < length (h .exclusions))) ⌝ }
+    requires { ⌜ ExclusionKept (now cells) i ⌝ }
     ensures { λ r. ⌜ ForExclusions (now (cells .entry)) (λ xs. r ≡ pairMask (getD xs i noExclusion)) ⌝ }
 {
     let first = book::first_at(cells, i);
@@ -22,7 +19,7 @@ fn pair_mask(cells: &book::Cells, i: usize) -> u32
 
 // The records of all exclusions, from record 1 on.
 pub fn put_exclusions(cells: &book::Cells, words: &mut [u32])
-    requires { ⌜ ExclusionsKept (now cells) ⌝ }
+    requires { ⌜ ExclusionsFit (now cells) (now words) ⌝ }
     ensures { λ r. ⌜ ExclusionsPut (now (cells .entry)) (now (words .entry)) (now (words .exit)) ⌝ }
 {
     let all = book::exclusion_count(cells);
@@ -30,7 +27,7 @@ pub fn put_exclusions(cells: &book::Cells, words: &mut [u32])
     while i < all {
         let mask = pair_mask(cells, i);
         let at = i + 1;
-        put_record(words, at, layout::EXCLUSION, mask, 0, (at + 1) as u32);
+        layout::put_record(words, at, layout::EXCLUSION, mask, 0, (at + 1) as u32);
         i += 1;
     }
 }

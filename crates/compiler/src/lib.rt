@@ -4,17 +4,16 @@ mod exclusions;
 mod nodes;
 mod planning;
 mod searching;
-mod writing;
 
 use exclusions::put_exclusions;
+use nodes::NODE_COUNT;
 use nodes::count_records;
 use nodes::put_nodes;
 ghost use mathlib.Core.Path.{_≡_};
 ghost use lib.ListN.{length};
-ghost use Rattle.translation.specs.Translation.{listingRecords};
 ghost use Rattle.book.specs.Ranges.{ConditionKept};
-ghost use Rattle.compiler.specs.Compiling.{fitting, returned, lentAfter};
 ghost use Rattle.compiler.specs.Meaning.{compiledMeaning, CompilingRan};
+ghost use Rattle.compiler.specs.Nodes.{ConditionReturns, ConditionLeaves};
 
 // What compiling returns.
 pub enum Compiled {
@@ -28,12 +27,12 @@ pub enum Compiled {
 // Condition n of a read book. The words are written only once the listing is known to have room.
 fn compile_condition(cells: &book::Cells, n: usize, words: &mut [u32]) -> Compiled
     requires { ⌜ ConditionKept (now cells) n ⌝ }
-    ensures { λ r. ⌜ ((h : ConditionKept (now (cells .entry)) n) → compiledMeaning r ≡ returned (fitting (length (now (words .entry))) (listingRecords (h .book) (h .condition)))) ⌝ }
-    ensures { λ r. ⌜ ((h : ConditionKept (now (cells .entry)) n) → now (words .exit) ≡ lentAfter (now (words .entry)) (fitting (length (now (words .entry))) (listingRecords (h .book) (h .condition)))) ⌝ }
+    ensures { λ r. ⌜ ConditionReturns (now (cells .entry)) n (now (words .entry)) (compiledMeaning r) ⌝ }
+    ensures { λ r. ⌜ ConditionLeaves (now (cells .entry)) n (now (words .entry)) (now (words .exit)) ⌝ }
 {
-    let mut lines = [0usize; 31];
+    let mut lines = [0usize; NODE_COUNT];
     let records = count_records(cells, n, &mut lines);
-    if words.len() < records * 4 {
+    if words.len() < records * layout::RECORD_WORDS {
         return Compiled::NoRoom;
     }
     let exclusions = book::exclusion_count(cells);

@@ -1,99 +1,118 @@
 // The plan: what the search asks again and again, worked out once for a policy and a threshold.
-// It has four cells for each number k of rules: the limit of the sets of k rules, the operator over the k rules of lowest
-// rank, and the score and the bit of the first of these. It is an array of numbers, so that it can be lent to the search;
-// a struct would be copied at every call.
+// It is an array of numbers, so that it can be lent to the search; a struct would be copied at every call.
 // For this crate only: no other can name these functions, and each call is proved to meet its condition.
 ghost use mathlib.Core.Path.{_≡_};
-ghost use Prim.Native.Nat.{ℕ, _+_, _^_, _≤_};
-ghost use lib.IntN.{ℤ};
+ghost use Prim.Native.Nat.{_^_, _≤_};
 ghost use lib.Signed.{mag};
-ghost use Rattle.peal.specs.Policies.{Policy as PealPolicy};
-ghost use Rattle.book.specs.Cells.{storedPolicy};
-ghost use Rattle.compiler.specs.Worth.{start as startOf, clamped as clampedOf, limitOf};
-ghost use Rattle.compiler.specs.Planning.{ThresholdFits, RulesInRange, RulesKept, withRow, PlanFor};
+ghost use Rattle.compiler.specs.Worth.{initial as initialOf, clamped as clampedOf, limitOf, NextLimit};
+ghost use Rattle.compiler.specs.Planning.{ThresholdFits, RulesKept, withRow, PlanOf};
 
-// The threshold, but at least -1 and at most 100.
-fn clamped(t: i32) -> i64
-    ensures { λ r. ⌜ r ≡ clampedOf t ⌝ }
+// A row for each number k of rules, from none to sixteen. First stands the limit of the sets of k rules; after it, at these
+// places, the operator over the k rules of lowest rank, and the score and the bit of the first of these.
+pub const ROW: usize = 4;
+
+pub const REST: usize = 1;
+
+pub const SCORE: usize = 2;
+
+pub const BIT: usize = 3;
+
+const PLAN_CELLS: usize = 68;
+
+pub type Plan = [i64; PLAN_CELLS];
+
+// Beyond every threshold, on either side.
+const BELOW_ALL: i64 = -200001;
+
+const ABOVE_ALL: i64 = 200001;
+
+// A score of one unit, in hundredths.
+pub const UNIT: i64 = 100;
+
+// The threshold, but at least -1 and at most one unit.
+fn clamped(threshold: i32) -> i64
+    ensures { λ r. ⌜ r ≡ clampedOf threshold ⌝ }
 {
-    if t < 0 {
+    let wide = threshold as i64;
+    if wide < 0 {
         return -1;
     }
-    if 100 < t {
-        return 100;
+    if UNIT < wide {
+        return UNIT;
     }
-    t as i64
+    wide
 }
 
 // The limit for no rule, from which the others are made: the search tries no set without a rule.
-fn first_limit(o: peal::Operator, t: i32) -> i64
-    ensures { λ r. ⌜ r ≡ limitOf o t 0 ⌝ }
+fn first_limit(operator: peal::Operator, threshold: i32) -> i64
+    ensures { λ r. ⌜ r ≡ limitOf operator threshold 0 ⌝ }
 {
-    match o {
-        peal::Operator::Mul => clamped(t),
-        peal::Operator::Min => t as i64,
-        peal::Operator::Max => t as i64,
-        peal::Operator::Sum => t as i64,
+    match operator {
+        peal::Operator::Mul => clamped(threshold),
+        peal::Operator::Min => threshold as i64,
+        peal::Operator::Max => threshold as i64,
+        peal::Operator::Sum => threshold as i64,
     }
 }
 
 // The limit of a set of one rule more.
-fn next_limit(o: peal::Operator, limit: i64) -> i64
+fn next_limit(operator: peal::Operator, limit: i64) -> i64
     requires { ⌜ mag limit ≤ 10 ^ 16 ⌝ }
-    ensures { λ r. ⌜ ((t : ℤ) (k : ℕ) → limit ≡ limitOf o t k → r ≡ limitOf o t (k + 1)) ⌝ }
+    ensures { λ r. ⌜ NextLimit operator limit r ⌝ }
 {
-    match o {
-        peal::Operator::Mul => limit * 100,
+    match operator {
+        peal::Operator::Mul => limit * UNIT,
         peal::Operator::Min => limit,
         peal::Operator::Max => limit,
         peal::Operator::Sum => limit,
     }
 }
 
-// Where an operator starts.
-pub fn start(o: peal::Operator) -> i64
-    ensures { λ r. ⌜ r ≡ startOf o ⌝ }
+// The operator over no score.
+pub fn initial(operator: peal::Operator) -> i64
+    ensures { λ r. ⌜ r ≡ initialOf operator ⌝ }
 {
-    match o {
+    match operator {
         peal::Operator::Sum => 0,
         peal::Operator::Mul => 1,
-        peal::Operator::Max => -200001,
-        peal::Operator::Min => 200001,
+        peal::Operator::Max => BELOW_ALL,
+        peal::Operator::Min => ABOVE_ALL,
     }
 }
 
-// The cells for k rules.
-fn put_row(plan: &mut [i64; 68], k: usize, limit: i64, rest: i64, score: i64, bit: i64)
+// The row for k rules.
+fn put_row(plan: &mut Plan, k: usize, limit: i64, rest: i64, score: i64, bit: i64)
     requires { ⌜ k ≤ 16 ⌝ }
     ensures { λ r. ⌜ now (plan .exit) ≡ withRow (now (plan .entry)) k limit rest score bit ⌝ }
 {
-    plan[k * 4] = limit;
-    plan[k * 4 + 1] = rest;
-    plan[k * 4 + 2] = score;
-    plan[k * 4 + 3] = bit;
+    let row = k * ROW;
+    plan[row] = limit;
+    plan[row + REST] = rest;
+    plan[row + SCORE] = score;
+    plan[row + BIT] = bit;
 }
 
-// The plan of a policy in falling rank.
-pub fn planned(p: book::Policy, t: i32) -> [i64; 68]
-    requires { ⌜ RulesKept p × ThresholdFits t ⌝ }
-    ensures { λ r. ⌜ ((q : PealPolicy) → p ≡ storedPolicy q → RulesInRange (q .operator) (q .rules) → PlanFor (p .operator) r q t) ⌝ }
+// The plan of a policy whose rules stand in falling rank.
+pub fn planned(policy: book::Policy, threshold: i32) -> Plan
+    requires { ⌜ RulesKept policy × ThresholdFits threshold ⌝ }
+    ensures { λ r. ⌜ PlanOf policy threshold r ⌝ }
 {
-    let o = p.operator;
-    let n = p.count;
-    let mut limit = first_limit(o, t);
-    let mut rest = start(o);
-    let mut plan = [0i64; 68];
+    let operator = policy.operator;
+    let count = policy.count;
+    let mut limit = first_limit(operator, threshold);
+    let mut rest = initial(operator);
+    let mut plan = [0i64; PLAN_CELLS];
     // Of no rules there is no first: its cells stay 0.
     put_row(&mut plan, 0, limit, rest, 0, 0);
     let mut k = 0;
-    while k < n {
+    while k < count {
         k += 1;
-        let i = n - k;
-        let signal = p.signals[i];
-        let score = p.scores[i] as i64;
+        let i = count - k;
+        let signal = policy.signals[i];
+        let score = policy.scores[i] as i64;
         let bit = signals::bit(signal) as i64;
-        limit = next_limit(o, limit);
-        rest = peal::combined(o, score, rest);
+        limit = next_limit(operator, limit);
+        rest = peal::combined(operator, score, rest);
         put_row(&mut plan, k, limit, rest, score, bit);
     }
     plan

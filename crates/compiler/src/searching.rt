@@ -1,56 +1,107 @@
-// The search for a policy's minimal sets, by recursion on a falling rank (document 000, figure 5, but for its test
-// of the empty set). Module `planning` tells the cells of a plan.
+// The search for a policy's minimal sets, by recursion on a falling rank (document 000, figure 5, but for its test of the
+// empty set). `count_found` makes it to count the sets, `search` to put them as lines.
 // For this crate only: no other can name these functions, and each call is proved to meet its condition.
+use crate::planning::BIT;
+use crate::planning::Plan;
+use crate::planning::REST;
+use crate::planning::ROW;
+use crate::planning::SCORE;
+use crate::planning::UNIT;
+use crate::planning::initial;
 use crate::planning::planned;
-use crate::planning::start;
-use crate::writing::put_line;
 ghost use mathlib.Core.Path.{_≡_};
-ghost use Prim.Native.Nat.{_+_, _^_, _≤_, _<_};
+ghost use Prim.Native.Nat.{_+_, _^_, _≤_};
+ghost use lib.IntN.{natAbs};
 ghost use lib.ListN.{length};
 ghost use lib.Signed.{mag};
-ghost use Rattle.book.specs.Ranges.{PolicyByValue};
-ghost use Rattle.compiler.specs.Putting.{putSets};
+ghost use Rattle.peal.specs.Combining.{combinedOf};
+ghost use Rattle.book.specs.Ranges.{PolicyKept};
 ghost use Rattle.compiler.specs.Worth.{reachedOf};
-ghost use Rattle.compiler.specs.Planning.{ThresholdFits};
-ghost use Rattle.compiler.specs.Searching.{CanSearch, CanPut, CanReach, HasReached, FoundCount, FoundEnd, FoundPut, OfLines};
+ghost use Rattle.compiler.specs.Planning.{ThresholdFits, scoreIn, bitIn};
+ghost use Rattle.compiler.specs.Searching.{having, allAt, found, CanSearch, ForPoints, BitFits, CanPut, FoundPut, OfLines, LinesKept, LinesPut};
+ghost use Rattle.compiler.specs.Room.{RoomFor};
 
 // A value is on the side of the limit that counts.
-fn is_reached(o: peal::Operator, limit: i64, value: i64) -> bool
+fn is_reached(operator: peal::Operator, limit: i64, value: i64) -> bool
     requires { ⌜ mag value ≤ 10 ^ 16 ⌝ }
-    ensures { λ r. ⌜ r ≡ reachedOf o limit value ⌝ }
+    ensures { λ r. ⌜ r ≡ reachedOf operator limit value ⌝ }
 {
-    match o {
+    match operator {
         peal::Operator::Sum => limit < value,
         peal::Operator::Max => limit < value,
         peal::Operator::Min => value <= limit,
-        peal::Operator::Mul => value * 100 <= limit,
+        peal::Operator::Mul => value * UNIT <= limit,
     }
 }
 
 // The `count` rules taken, worth `value`, and all `left` rules still to come have the property together.
-fn can_reach(o: peal::Operator, plan: &[i64; 68], count: usize, value: i64, left: usize) -> bool
-    requires { ⌜ CanSearch o (now plan) count value left ⌝ }
-    ensures { λ r. ⌜ CanReach o (now (plan .entry)) count value left r ⌝ }
+fn can_reach(operator: peal::Operator, plan: &Plan, count: usize, value: i64, left: usize) -> bool
+    requires { ⌜ CanSearch operator (now plan) count value left ⌝ }
+    ensures { λ r. ⌜ ForPoints operator (now (plan .entry)) count value left (λ p. r ≡ having p (allAt p left)) ⌝ }
 {
     let all = count + left;
-    let limit = plan[all * 4];
-    let rest = plan[left * 4 + 1];
-    is_reached(o, limit, peal::combined(o, value, rest))
+    let limit = plan[all * ROW];
+    let rest = plan[left * ROW + REST];
+    is_reached(operator, limit, peal::combined(operator, value, rest))
 }
 
 // The rules taken have the property.
-fn has_reached(o: peal::Operator, plan: &[i64; 68], count: usize, value: i64) -> bool
-    requires { ⌜ CanSearch o (now plan) count value 0 ⌝ }
-    ensures { λ r. ⌜ HasReached o (now (plan .entry)) count value r ⌝ }
+fn has_reached(operator: peal::Operator, plan: &Plan, count: usize, value: i64) -> bool
+    requires { ⌜ CanSearch operator (now plan) count value 0 ⌝ }
+    ensures { λ r. ⌜ ForPoints operator (now (plan .entry)) count value 0 (λ p. r ≡ having p (p .taken)) ⌝ }
 {
-    is_reached(o, plan[count * 4], value)
+    is_reached(operator, plan[count * ROW], value)
 }
 
-// The sets found beyond the rules taken, whose signals are the mask, with the `rank` rules of lowest rank, as lines from
-// record `at` on; record `last` is the policy's last line. Returns the number of the record after them.
+// What the rules taken are worth with the first of the rules still to come.
+fn next_value(operator: peal::Operator, plan: &Plan, value: i64, left: usize) -> i64
+    requires { ⌜ (left ≤ 16) × (mag (combinedOf operator value (scoreIn (now plan) left)) ≤ 10 ^ 16) ⌝ }
+    ensures { λ r. ⌜ r ≡ combinedOf operator value (scoreIn (now (plan .entry)) left) ⌝ }
+{
+    peal::combined(operator, value, plan[left * ROW + SCORE])
+}
+
+// The mask of the rules taken with the first of the rules still to come.
+fn next_mask(plan: &Plan, mask: u32, left: usize) -> u32
+    requires { ⌜ (left ≤ 16) × BitFits mask (bitIn (now plan) left) ⌝ }
+    ensures { λ r. ⌜ r ≡ mask + natAbs (bitIn (now (plan .entry)) left) ⌝ }
+{
+    mask + plan[left * ROW + BIT] as u32
+}
+
+// How many sets are found beyond the rules taken with the `rank` rules of lowest rank.
+fn count_found(
+    operator: peal::Operator,
+    plan: &Plan,
+    count: usize,
+    value: i64,
+    rank: usize,
+) -> usize
+    requires { ⌜ CanSearch operator (now plan) count value rank ⌝ }
+    ensures { λ r. ⌜ ForPoints operator (now (plan .entry)) count value rank (λ p. r ≡ length (found p rank)) ⌝ }
+{
+    let mut sets = 0;
+    let mut left = rank;
+    while 0 < left {
+        if !can_reach(operator, plan, count, value, left) {
+            return sets;
+        }
+        let next = next_value(operator, plan, value, left);
+        left -= 1;
+        if has_reached(operator, plan, count + 1, next) {
+            sets += 1;
+        } else {
+            sets += count_found(operator, plan, count + 1, next, left);
+        }
+    }
+    sets
+}
+
+// The same sets as lines from record `at` on, where the mask is that of the rules taken and record `last` the policy's last
+// line. Returns the number of the record after them.
 fn search(
-    o: peal::Operator,
-    plan: &[i64; 68],
+    operator: peal::Operator,
+    plan: &Plan,
     mask: u32,
     count: usize,
     value: i64,
@@ -59,77 +110,76 @@ fn search(
     at: usize,
     last: usize,
 ) -> usize
-    requires { ⌜ (0 < at) × CanPut o (now plan) mask count value rank at ⌝ }
-    ensures { λ r. ⌜ FoundEnd o (now (plan .entry)) mask count value rank at r ⌝ }
-    ensures { λ r. ⌜ FoundPut o (now (plan .entry)) mask count value rank at last (now (words .entry))
+    requires { ⌜ CanPut operator (now plan) mask count value rank at (now words) ⌝ }
+    ensures { λ r. ⌜ FoundPut operator (now (plan .entry)) mask count value rank last at (now (words .entry)) r
         (now (words .exit)) ⌝ }
 {
-    let mut next = at;
+    let mut after = at;
     let mut left = rank;
     while 0 < left {
-        if !can_reach(o, plan, count, value, left) {
-            return next;
+        if !can_reach(operator, plan, count, value, left) {
+            return after;
         }
-        // With the first of the rules still to come.
-        let m = mask + plan[left * 4 + 3] as u32;
-        let v = peal::combined(o, value, plan[left * 4 + 2]);
+        let next = next_value(operator, plan, value, left);
+        let set = next_mask(plan, mask, left);
         left -= 1;
-        if has_reached(o, plan, count + 1, v) {
-            put_line(words, next, m, last);
-            next += 1;
+        if has_reached(operator, plan, count + 1, next) {
+            layout::put_line(words, after, set, last);
+            after += 1;
         } else {
-            next = search(o, plan, m, count + 1, v, left, words, next, last);
+            after = search(
+                operator,
+                plan,
+                set,
+                count + 1,
+                next,
+                left,
+                words,
+                after,
+                last,
+            );
         }
     }
-    next
+    after
 }
 
-// The lines of a policy under threshold t, from record `at` on; record `last` is the last of them. Returns the number of
-// the record after them.
-pub fn put_lines(p: book::Policy, t: i32, words: &mut [u32], at: usize, last: usize) -> usize
-    requires { ⌜ (0 < at) × (at < 2 ^ 31) × PolicyByValue p × ThresholdFits t ⌝ }
-    ensures { λ r. ⌜ OfLines p t (λ sets. r ≡ at + length sets) ⌝ }
-    ensures { λ r. ⌜ OfLines p t (λ sets. now (words .exit) ≡ putSets last (now (words .entry)) at sets) ⌝ }
+// How many lines policy k has under a threshold.
+pub fn count_lines(cells: &book::Cells, k: usize, threshold: i32) -> usize
+    requires { ⌜ PolicyKept (now cells) k × ThresholdFits threshold ⌝ }
+    ensures { λ r. ⌜ OfLines (now (cells .entry)) k threshold (λ sets. r ≡ length sets) ⌝ }
 {
-    let q = ranking::in_rank_order(p);
-    let o = q.operator;
-    let n = q.count;
-    let plan = planned(q, t);
-    let value = start(o);
-    search(o, &plan, 0, 0, value, n, words, at, last)
+    let policy = ranking::in_rank_order(book::policy_at(cells, k));
+    let operator = policy.operator;
+    let rules = policy.count;
+    let plan = planned(policy, threshold);
+    count_found(operator, &plan, 0, initial(operator), rules)
 }
 
-// How many sets the search finds.
-fn count_found(o: peal::Operator, plan: &[i64; 68], count: usize, value: i64, rank: usize) -> usize
-    requires { ⌜ CanSearch o (now plan) count value rank ⌝ }
-    ensures { λ r. ⌜ FoundCount o (now (plan .entry)) count value rank r ⌝ }
+// The records of these lines, which are so many, from record `at` on.
+pub fn put_lines(
+    cells: &book::Cells,
+    k: usize,
+    threshold: i32,
+    count: usize,
+    words: &mut [u32],
+    at: usize,
+)
+    requires { ⌜ LinesKept (now cells) k threshold count × RoomFor at count (now words) ⌝ }
+    ensures { λ r. ⌜ LinesPut (now (cells .entry)) k threshold count at (now (words .entry)) (now (words .exit)) ⌝ }
 {
-    let mut sets = 0;
-    let mut left = rank;
-    while 0 < left {
-        if !can_reach(o, plan, count, value, left) {
-            return sets;
-        }
-        let v = peal::combined(o, value, plan[left * 4 + 2]);
-        left -= 1;
-        if has_reached(o, plan, count + 1, v) {
-            sets += 1;
-        } else {
-            sets += count_found(o, plan, count + 1, v, left);
-        }
-    }
-    sets
-}
-
-// How many lines a policy has.
-pub fn count_lines(p: book::Policy, t: i32) -> usize
-    requires { ⌜ PolicyByValue p × ThresholdFits t ⌝ }
-    ensures { λ r. ⌜ OfLines p t (λ sets. r ≡ length sets) ⌝ }
-{
-    let q = ranking::in_rank_order(p);
-    let o = q.operator;
-    let n = q.count;
-    let plan = planned(q, t);
-    let value = start(o);
-    count_found(o, &plan, 0, value, n)
+    let policy = ranking::in_rank_order(book::policy_at(cells, k));
+    let operator = policy.operator;
+    let rules = policy.count;
+    let plan = planned(policy, threshold);
+    search(
+        operator,
+        &plan,
+        0,
+        0,
+        initial(operator),
+        rules,
+        words,
+        at,
+        at + count - 1,
+    );
 }

@@ -5,9 +5,9 @@ use mathlib.Core.Path.{_≡_, refl, ap, _∙_}
 use native.Mathlib.Omega.{arith}
 use denote.Ref.{now}
 use lib.ListN.{length}
+use Rattle.layout.proofs.WritingLaws.{put-length}
 use Rattle.peal.specs.Policies.{Exclusion}
 use Rattle.book.specs.Cells.{ExclusionCells}
-use Rattle.compiler.proofs.PuttingLaws.{put-length}
 use Rattle.compiler.proofs.PairLaws.{PairsTo, pairs-turn, pairs-end}
 use Rattle.compiler.proofs.exclusions.put_exclusions.Statement.{statement}
 use Rattle.compiler.proofs.exclusions.put_exclusions.Tie as tie
@@ -20,7 +20,7 @@ abbrev μ-loop : tie.MeasureT-loop
 μ-loop cells words₀ all i₀ words i = all - i
 
 exclusion-count-requires : tie.Need-exclusion-count-requires Inv-loop μ-loop
-exclusion-count-requires c κs = c .before .pre
+exclusion-count-requires c κs = c .before .pre .0
 
 loop-holds : tie.Need-loop-holds Inv-loop μ-loop
 loop-holds c = (omega arith, refl, λ xs h. refl)
@@ -37,10 +37,10 @@ module _ (c : tie.In-loop Inv-loop μ-loop) where
   inside xs h = omega (arith, c .loop-test .taken, turn .before .exclusion-count .ensures xs h)
 
   few : turn .loop .i < 16
-  few = let k = start .pre in omega (arith, inside (k .exclusions) (k .held), k .room)
+  few = let k = start .pre .0 in omega (arith, inside (k .exclusions) (k .held), k .room)
 
 pair-mask-requires : tie.Need-pair-mask-requires Inv-loop μ-loop
-pair-mask-requires c κs = let k = start c .pre in (k, inside c (k .exclusions) (k .held))
+pair-mask-requires c κs = let k = start c .pre .0 in (k, inside c (k .exclusions) (k .held))
 
 add-at : tie.Need-add-at Inv-loop μ-loop
 add-at c = omega (arith, few (c .before))
@@ -52,7 +52,10 @@ cast-put-record : tie.Need-cast-put-record Inv-loop μ-loop
 cast-put-record c = omega (arith, few (c .before .before))
 
 put-record-requires : tie.Need-put-record-requires Inv-loop μ-loop
-put-record-requires c κs = (omega arith, omega (arith, few (c .before .before)))
+put-record-requires c κs =
+    let w = c .before .before in
+    let k = start w .pre in
+    (omega arith, omega (arith, inside w (k .0 .exclusions) (k .0 .held), k .1 .inside, turn w .loop .inv .1))
 
 add-i : tie.Need-add-i Inv-loop μ-loop
 add-i c = omega (arith, few (c .before .before .before .before .before))

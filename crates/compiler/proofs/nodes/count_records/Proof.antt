@@ -1,19 +1,21 @@
 -- `compiler::nodes::count_records`: the records before node i, and the lines of each of those nodes.
-use Prim.Native.Nat.{_+_, _-_, _*_, _≤_, _<_}
-use mathlib.Core.Path.{_≡_}
+use Prim.Native.Nat.{ℕ, _+_, _-_, _*_, _≤_, _<_}
+use mathlib.Core.Path.{_≡_, refl, ap}
 use native.Mathlib.Omega.{arith}
 use denote.Ref.{now}
+use lib.ListN.{length}
+use Rattle.layout.specs.Nodes.{nodeRecords}
 use Rattle.book.specs.Ranges.{ConditionKept}
 use Rattle.book.proofs.CellLaws.{condition-held, exclusions-kept, codes-few}
-use Rattle.compiler.specs.Nodes.{linesIn, nodeAt, CountsUpTo}
+use Rattle.compiler.specs.Nodes.{linesIn, nodesOf, nodeAt, CountsUpTo}
 use Rattle.compiler.proofs.KeptNodes.{size, lines-few}
-use Rattle.compiler.proofs.TurnLaws.{cells-more, CountedTo, count-start, count-turn, count-end}
+use Rattle.compiler.proofs.TurnLaws.{cells-more, NumberedTo, numbers-turn, numbers-end, listing-count}
 use Rattle.compiler.proofs.nodes.count_records.Statement.{statement}
 use Rattle.compiler.proofs.nodes.count_records.Tie as tie
 
 abbrev Inv-loop : tie.InvT-loop
 Inv-loop cells n lines₀ all records₀ i₀ lines records i =
-    (i ≤ all) × (records ≤ 16 + i * 65537) × ((h : ConditionKept cells n) → CountedTo h i records) × CountsUpTo cells n lines i
+    (i ≤ all) × (records ≤ 16 + i * 65537) × ((h : ConditionKept cells n) → NumberedTo h (length (h .book .exclusions) + 1) i (records + 1)) × CountsUpTo cells n lines i
 
 abbrev μ-loop : tie.MeasureT-loop
 μ-loop cells n lines₀ all records₀ i₀ lines records i = all - i
@@ -28,7 +30,7 @@ loop-holds : tie.Need-loop-holds Inv-loop μ-loop
 loop-holds c = (
   omega arith,
   omega (arith, c .exclusion-count .ensures (c .before .before .pre .book .exclusions) (c .before .before .pre .held .exclusions), c .before .before .pre .range .exclusionsRoom),
-  λ h. count-start h _ (c .exclusion-count .ensures (h .book .exclusions) (h .held .exclusions)),
+  λ h. ap (λ (k : ℕ). k + 1 + length (nodeRecords (k + 1) (nodesOf (h .book) (h .condition)))) (c .exclusion-count .ensures (h .book .exclusions) (h .held .exclusions)),
   λ h j l. absurd (omega arith),
 )
 
@@ -51,7 +53,7 @@ module _ (c : tie.In-loop Inv-loop μ-loop) where
   cell = omega (arith, inside (start .pre), codes-few (start .pre))
 
 next-lines-requires : tie.Need-next-lines-requires Inv-loop μ-loop
-next-lines-requires c κs = let w = c .before in let k = start w .pre in (k, inside w k, turn w .loop .inv .3)
+next-lines-requires c κs = let w = c .before in let k = start w .pre in ((k, inside w k), turn w .loop .inv .3)
 
 -- its lines are few
 few : (c : tie.After-next-lines Inv-loop μ-loop) → c .next-lines .result ≤ 65536
@@ -82,18 +84,25 @@ loop-again c =
     let l = turn w .loop in (
       omega (arith, w .loop-test .taken),
       omega (arith, few g, l .inv .1),
-      λ h. count-turn h (l .i) (inside w h) _ (g .next-lines .ensures h) (l .records) (l .inv .2 h),
+      λ h. numbers-turn h (l .i) (inside w h) _ (g .next-lines .ensures h) _ (l .records + 1) (l .inv .2 h) _ (omega arith),
       λ h. cells-more (λ j. linesIn (nodeAt (h .book) (h .condition) j)) (l .lines) (l .i) (g .next-lines .result) (slice-write-counts c) (l .inv .3 h) (g .next-lines .ensures h),
     )
 
 returns : tie.Need-returns Inv-loop μ-loop
 returns c =
     let l = c .before in
-    let k = l .before .before .before .pre in (
-      omega (arith, l .loop .inv .0, l .loop .inv .1, all (l .before .before) k, codes-few k),
-      λ h. count-end h (l .loop .i) (omega (arith, c .loop-test .left, all (l .before .before) h)) (l .loop .records) (l .loop .inv .2 h),
-      λ h j i. l .loop .inv .3 h j (omega (arith, c .loop-test .left, all (l .before .before) h)),
-    )
+    let k = l .before .before .before .pre in
+    record {
+      small = omega (arith, l .loop .inv .0, l .loop .inv .1, all (l .before .before) k, codes-few k);
+      listing =
+          λ h.
+          omega (
+            arith,
+            numbers-end h (l .loop .i) (omega (arith, c .loop-test .left, all (l .before .before) h)) _ (l .loop .records + 1) (l .loop .inv .2 h),
+            listing-count h _ refl,
+          );
+      nodes = λ h j i. l .loop .inv .3 h j (omega (arith, c .loop-test .left, all (l .before .before) h));
+    }
 
 pub count-records-spec : {M : Type 1} → statement M
 count-records-spec =

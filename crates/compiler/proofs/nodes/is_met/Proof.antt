@@ -23,16 +23,16 @@ unfolding meets scaled
 returns c =
     let s = c .before .before in
     let a = s .args in
-    ap₂ ltZ (toZ-ofZ w32 (a .t) (s .fits .t)) (toZ-ofZ w32 (a .d) (s .fits .d)) ∙ sym (ltZ-scale (a .t) (a .d) (10 ^ 14) (omega arith))
-    ∙ ap (λ (x : Sense). meets x (a .t) (scaled (a .d))) (sym (c .enum-told .given .1))
+    ap₂ ltZ (toZ-ofZ w32 (a .threshold) (s .fits .threshold)) (toZ-ofZ w32 (a .default) (s .fits .default)) ∙ sym (ltZ-scale (a .threshold) (a .default) (10 ^ 14) (omega arith))
+    ∙ ap (λ (x : Sense). meets x (a .threshold) (scaled (a .default))) (sym (c .enum-told .given .1))
 
 returns-2 : tie.Need-returns-2
 unfolding meets scaled
 returns-2 c =
     let s = c .before .before in
     let a = s .args in
-    ap₂ leZ (toZ-ofZ w32 (a .d) (s .fits .d)) (toZ-ofZ w32 (a .t) (s .fits .t)) ∙ sym (leZ-scale (a .d) (a .t) (10 ^ 14) (omega arith))
-    ∙ ap (λ (x : Sense). meets x (a .t) (scaled (a .d))) (sym (c .enum-told2 .given .1))
+    ap₂ leZ (toZ-ofZ w32 (a .default) (s .fits .default)) (toZ-ofZ w32 (a .threshold) (s .fits .threshold)) ∙ sym (leZ-scale (a .default) (a .threshold) (10 ^ 14) (omega arith))
+    ∙ ap (λ (x : Sense). meets x (a .threshold) (scaled (a .default))) (sym (c .enum-told2 .given .1))
 
 pub is-met-spec : {M : Type 1} → statement M
 is-met-spec = tie.close (tie.spec enum-told enum-told-2 returns returns-2)

@@ -15,17 +15,17 @@ abbrev μ-loop : tie.MeasureT-loop
 μ-loop cells n lines i code j₀ j = i - j
 
 code-at-requires : tie.Need-code-at-requires Inv-loop μ-loop
-code-at-requires c κs = (c .pre .0, c .pre .1)
+code-at-requires c κs = c .pre .0
 
 loop-holds : tie.Need-loop-holds Inv-loop μ-loop
 loop-holds c = omega arith
 
 code-at-requires-2 : tie.Need-code-at-requires-2 Inv-loop μ-loop
-code-at-requires-2 c κs = let s = c .before .before .before in (s .pre .0, omega (arith, c .loop-test .taken, s .pre .1))
+code-at-requires-2 c κs = let s = c .before .before .before in (s .pre .0 .0, omega (arith, c .loop-test .taken, s .pre .0 .1))
 
 -- node j is one of 31
 cell : (c : tie.In-loop Inv-loop μ-loop) → c .before .loop .j < 31
-cell c = let s = c .before .before .before in omega (arith, c .loop-test .taken, s .pre .1, codes-few (s .pre .0))
+cell c = let s = c .before .before .before in omega (arith, c .loop-test .taken, s .pre .0 .1, codes-few (s .pre .0 .0))
 
 mul-result : tie.Need-mul-result Inv-loop μ-loop
 mul-result c = omega (arith, cell (c .before .before))
@@ -40,7 +40,7 @@ returns c h =
     let f = w .before .before in
     let s = f .before in
     let j = w .before .loop .j in
-    s .pre .2 h j (w .loop-test .taken)
+    s .pre .1 h j (w .loop-test .taken)
     ∙ same-lines h (s .args .i) j (f .code-at .result) (f .code-at .ensures (h .condition) (condition-held h)) (sym (c .before .if1 .taken) ∙ e .code-at2 .ensures (h .condition) (condition-held h))
 
 add-j : tie.Need-add-j Inv-loop μ-loop
@@ -53,7 +53,7 @@ loop-again : tie.Need-loop-again Inv-loop μ-loop
 loop-again c = omega (arith, c .before .before .loop-test .taken)
 
 node-lines-requires : tie.Need-node-lines-requires Inv-loop μ-loop
-node-lines-requires c κs = let s = c .before .before .before in (s .pre .0, s .pre .1)
+node-lines-requires c κs = c .before .before .before .pre .0
 
 returns-2 : tie.Need-returns-2 Inv-loop μ-loop
 returns-2 c h = c .node-lines .ensures h

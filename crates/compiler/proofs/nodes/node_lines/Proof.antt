@@ -8,8 +8,8 @@ use mir.Syntax.{w32}
 use mir.Val.{SFits, toZ, ofZ}
 use mir.ValLaws.{toZ-ofZ}
 use Rattle.book.specs.Ranges.{ConditionKept}
-use Rattle.book.proofs.CellLaws.{condition-held, mention-held, mention-kept}
-use Rattle.compiler.proofs.KeptNodes.{size, codeAt, same-size, no-lines, mention-range, threshold-fits, mention-lines}
+use Rattle.book.proofs.CellLaws.{condition-held}
+use Rattle.compiler.proofs.KeptNodes.{size, codeAt, same-size, no-lines, policy-kept, threshold-fits, mention-lines}
 use Rattle.compiler.proofs.nodes.node_lines.Statement.{statement}
 use Rattle.compiler.proofs.nodes.node_lines.Tie as tie
 
@@ -27,6 +27,9 @@ code c h = c .code-at .ensures (h .condition) (condition-held h)
 returns : tie.Need-returns
 returns c = λ h. sym (no-lines h (c .before .before .args .i) (c .before .code-at .result) (code (c .before) h) (c .if1 .taken))
 
+cast-k : tie.Need-cast-k
+cast-k c = search needs
+
 threshold-at-requires : tie.Need-threshold-at-requires
 threshold-at-requires c κs = c .before .before .pre .0
 
@@ -35,52 +38,25 @@ same : (c : tie.After-threshold-at) → let s = c .before .before .before in
     (h : ConditionKept (now (s .args .cells)) (s .args .n)) → toZ w32 (ofZ w32 (c .threshold-at .result)) ≡ h .condition .threshold
 same c h = let fits : SFits w32 (c .threshold-at .result) = search needs in toZ-ofZ w32 (c .threshold-at .result) fits ∙ c .threshold-at .ensures (h .condition) (condition-held h)
 
-cast-policy-at : tie.Need-cast-policy-at
-cast-policy-at c = search needs
-
-sub-policy-at : tie.Need-sub-policy-at
-sub-policy-at c = c .before .if1 .left
-
-policy-at-requires : tie.Need-policy-at-requires
-policy-at-requires c κs =
-    let e = c .before in
-    let s = e .before .before in
-    mention-kept (s .pre .0) (s .args .i) (s .pre .1) (e .before .code-at .result) (code (e .before) (s .pre .0)) (e .if1 .left)
-
 count-lines-requires : tie.Need-count-lines-requires
 count-lines-requires c κs =
-    let e = c .before .before in
+    let e = c .before in
     let s = e .before .before in
     let h = s .pre .0 in
-    let n = e .before .code-at .result in (
-      (
-        _,
-        c .policy-at .ensures _ (mention-held h (s .args .i) (s .pre .1) n (code (e .before) h) (e .if1 .left)),
-        mention-range h (s .args .i) n (code (e .before) h) (e .if1 .left) (s .pre .1),
-      ),
-      threshold-fits h _ (same (c .before) h),
-    )
+    (policy-kept h (s .args .i) (e .before .code-at .result) (code (e .before) h) (e .if1 .left) (s .pre .1), threshold-fits h _ (same c h))
 
 returns-2 : tie.Need-returns-2
+unfolding policy-kept
 returns-2 c =
-    let p = c .before in
-    let e = p .before .before in
+    let t = c .before in
+    let e = t .before in
     let s = e .before .before in
     let n = e .before .code-at .result in
     λ h.
-    c .count-lines .ensures _ (p .policy-at .ensures _ (mention-held h (s .args .i) (inside s h) n (code (e .before) h) (e .if1 .left)))
-    (mention-range h (s .args .i) n (code (e .before) h) (e .if1 .left) (inside s h))
-    ∙ sym (mention-lines h (s .args .i) n (code (e .before) h) (e .if1 .left) _ (same (p .before) h))
+    c .count-lines .ensures (policy-kept h (s .args .i) n (code (e .before) h) (e .if1 .left) (inside s h))
+    ∙ sym (mention-lines h (s .args .i) n (code (e .before) h) (e .if1 .left) _ (same t h))
 
 pub node-lines-spec : {M : Type 1} → statement M
 node-lines-spec =
     tie.close
-    (tie.spec
-    code-at-requires
-    returns
-    threshold-at-requires
-    cast-policy-at
-    sub-policy-at
-    policy-at-requires
-    count-lines-requires
-    returns-2)
+    (tie.spec code-at-requires returns cast-k threshold-at-requires count-lines-requires returns-2)

@@ -4,7 +4,7 @@ use mathlib.Core.Bool.{cond}
 use mathlib.Core.Path.{ap, _∙_}
 use borrow.Author.Needs.{needs}
 use denote.Ref.{now}
-use Rattle.compiler.specs.Putting.{putRecord, putRecords}
+use Rattle.layout.specs.Writing.{putRecord, putRecords}
 use Rattle.compiler.specs.Nodes.{oneNode}
 use Rattle.compiler.proofs.nodes.put_join.Statement.{statement}
 use Rattle.compiler.proofs.nodes.put_join.Tie as tie

@@ -1,7 +1,7 @@
 -- `compiler::nodes::put_node`: a join's record, or a mention's.
 use Prim.Native.Nat.{_+_, _<_}
 use mathlib.Core.Bool.{Bool}
-use mathlib.Core.Path.{_≡_, sym, ap, ap₂, _∙_}
+use mathlib.Core.Path.{_≡_, refl, sym, ap, ap₂, _∙_}
 use native.Mathlib.Omega.{arith}
 use borrow.Author.Needs.{needs}
 use denote.Ref.{now}
@@ -10,22 +10,23 @@ use mir.Syntax.{w32}
 use mir.Val.{SFits, toZ, ofZ}
 use mir.ValLaws.{toZ-ofZ}
 use Rattle.layout.specs.Nodes.{ListedNode}
+use Rattle.layout.specs.Writing.{putRecords}
 use Rattle.book.specs.Ranges.{ConditionKept}
 use Rattle.book.proofs.CellLaws.{condition-held, codes-few}
-use Rattle.compiler.specs.Putting.{putRecords}
 use Rattle.compiler.specs.Nodes.{oneNode}
-use Rattle.compiler.proofs.KeptNodes.{size, codeAt, same-size, join-here, mention-here, lines-kept}
+use Rattle.compiler.proofs.RoomLaws.{room-part}
+use Rattle.compiler.proofs.KeptNodes.{size, codeAt, same-size, join-here, mention-here, policy-kept, lines-kept}
 use Rattle.compiler.proofs.nodes.put_node.Statement.{statement}
 use Rattle.compiler.proofs.nodes.put_node.Tie as tie
 
 sense-at-requires : tie.Need-sense-at-requires
-sense-at-requires c κs = c .before .pre .3 .0
+sense-at-requires c κs = c .before .pre .0 .kept .0
 
 code-at-requires : tie.Need-code-at-requires
-code-at-requires c κs = c .before .before .pre .3
+code-at-requires c κs = c .before .before .pre .0 .kept
 
 length-at-requires : tie.Need-length-at-requires
-length-at-requires c κs = c .before .before .before .pre .3 .0
+length-at-requires c κs = c .before .before .before .pre .0 .kept .0
 
 -- what is read of the condition, whatever it is kept as
 module _ (c : tie.After-length-at) where
@@ -43,22 +44,22 @@ module _ (c : tie.After-length-at) where
     more = ap (ltb (start .args .i + 1)) (c .length-at .ensures (h .condition) (condition-held h))
 
     inside : start .args .i < size h
-    inside = omega (arith, start .pre .3 .1, same-size (start .pre .3 .0) h)
+    inside = omega (arith, start .pre .0 .kept .1, same-size (start .pre .0 .kept .0) h)
 
 add-more : tie.Need-add-more
-add-more c = let k = start c .pre .3 in omega (arith, k .1, codes-few (k .0))
+add-more c = let k = start c .pre .0 .kept in omega (arith, k .1, codes-few (k .0))
 
 put-join-requires : tie.Need-put-join-requires
-put-join-requires c κs = search needs
+put-join-requires c κs =
+    let e = c .before in
+    let r = start (e .before) .pre .1 in
+    (e .if1 .taken, room-part r _ 1 (r .begins) (omega arith) refl)
 
 threshold-at-requires : tie.Need-threshold-at-requires
-threshold-at-requires c κs = start (c .before) .pre .3 .0
+threshold-at-requires c κs = start (c .before) .pre .0 .kept .0
 
-cast-put-policy : tie.Need-cast-put-policy
-cast-put-policy c = search needs
-
-sub-put-policy : tie.Need-sub-put-policy
-sub-put-policy c = c .before .if1 .left
+cast-k : tie.Need-cast-k
+cast-k c = search needs
 
 -- the threshold, as it is passed
 same : (c : tie.After-threshold-at) → let s = start (c .before .before) in
@@ -71,8 +72,8 @@ put-policy-requires c κs =
     let e = t .before in
     let r = e .before in
     let s = start r in
-    let k = s .pre .3 in
-    (s .pre .0, s .pre .1, lines-kept (k .0) (s .args .i) (r .before .code-at .result) (code r (k .0)) (e .if1 .left) (k .1) _ (same t (k .0)) (s .args .count) (s .pre .2 (k .0)))
+    let k = s .pre .0 .kept in
+    (lines-kept (k .0) (s .args .i) (r .before .code-at .result) (code r (k .0)) (e .if1 .left) (k .1) _ (same t (k .0)) (s .args .count) (s .pre .0 .lines (k .0)), s .pre .1)
 
 same-length : tie.Need-same-length
 same-length c = search needs
@@ -93,7 +94,7 @@ same-length-2 : tie.Need-same-length-2
 same-length-2 c = search needs
 
 returns-2 : tie.Need-returns-2
-unfolding lines-kept
+unfolding lines-kept policy-kept
 returns-2 c =
     let p = c .before .before in
     let t = p .before .before in
@@ -103,7 +104,7 @@ returns-2 c =
     let a = s .args in
     let n = r .before .code-at .result in
     λ h.
-    p .put-policy .ensures (lines-kept h (a .i) n (code r h) (e .if1 .left) (inside r h) _ (same t h) (a .count) (s .pre .2 h))
+    p .put-policy .ensures (lines-kept h (a .i) n (code r h) (e .if1 .left) (inside r h) _ (same t h) (a .count) (s .pre .0 .lines h))
     ∙ ap₂ (λ (b : Bool) (x : ListedNode). putRecords (now (a .words)) (a .at) (oneNode (a .at) b x)) (more r h) (sym (mention-here h (a .i) n (code r h) (e .if1 .left) _ _ (sense r h) (same t h)))
 
 pub put-node-spec : {M : Type 1} → statement M
@@ -115,9 +116,8 @@ put-node-spec =
     length-at-requires
     add-more
     put-join-requires
+    cast-k
     threshold-at-requires
-    cast-put-policy
-    sub-put-policy
     put-policy-requires
     same-length
     returns

@@ -1,30 +1,32 @@
 -- `compiler::nodes::put_nodes`: what is written before node i leads to the listing.
-use Prim.Native.Nat.{_+_, _-_, _*_, _≤_, _<_}
+use Prim.Native.Nat.{ℕ, _+_, _-_, _≤_, _<_}
 use mathlib.Core.Path.{_≡_, refl, _∙_}
 use native.Mathlib.Omega.{arith}
 use denote.Ref.{now}
 use lib.ListN.{length, getD}
 use Rattle.book.specs.Ranges.{ConditionKept}
 use Rattle.book.proofs.CellLaws.{condition-held, codes-few}
-use Rattle.compiler.proofs.KeptNodes.{size, lines-few}
-use Rattle.compiler.proofs.TurnLaws.{WrittenTo, put-start, put-turn, put-end}
+use Rattle.compiler.specs.Room.{RoomFor}
+use Rattle.compiler.proofs.RoomLaws.{room-part}
+use Rattle.compiler.proofs.KeptNodes.{size}
+use Rattle.compiler.proofs.TurnLaws.{WrittenTo, put-start, node-inside, put-turn, put-end}
 use Rattle.compiler.proofs.nodes.put_nodes.Statement.{statement}
 use Rattle.compiler.proofs.nodes.put_nodes.Tie as tie
 
 abbrev Inv-loop : tie.InvT-loop
 Inv-loop cells n lines words₀ first all at₀ i₀ words at i =
-    (i ≤ all) × (0 < at) × (at ≤ first + i * 65537) × (length words ≡ length words₀) × ((h : ConditionKept cells n) → WrittenTo h first i at words₀ words)
+    (i ≤ all) × (0 < at) × (length words ≡ length words₀) × ((h : ConditionKept cells n) → WrittenTo h first i at words₀ words)
 
 abbrev μ-loop : tie.MeasureT-loop
 μ-loop cells n lines words₀ first all at₀ i₀ words at i = all - i
 
 length-at-requires : tie.Need-length-at-requires Inv-loop μ-loop
-length-at-requires c κs = c .before .pre .0
+length-at-requires c κs = c .before .pre .1 .0
 
 loop-holds : tie.Need-loop-holds Inv-loop μ-loop
-loop-holds c = let s = c .before .before in (omega arith, s .pre .2, omega arith, refl, λ h. put-start h (s .args .first) (now (s .args .words)))
+loop-holds c = let s = c .before .before in (omega arith, s .pre .1 .1 .begins, refl, λ h. put-start h (s .args .first) (now (s .args .words)))
 
--- node i is one of 31, and its lines are few
+-- node i is one of 31, and its records have room
 module _ (c : tie.In-loop Inv-loop μ-loop) where
   abbrev turn : tie.At-loop Inv-loop μ-loop
   turn = c .before
@@ -32,14 +34,20 @@ module _ (c : tie.In-loop Inv-loop μ-loop) where
   abbrev start : tie.Start Inv-loop μ-loop
   start = turn .before .before .before
 
+  abbrev count : ℕ
+  count = getD (now (start .args .lines)) (turn .loop .i) 0
+
   inside : (h : ConditionKept (now (start .args .cells)) (start .args .n)) → turn .loop .i < size h
   inside h = omega (arith, c .loop-test .taken, turn .before .length-at .ensures (h .condition) (condition-held h))
 
   cell : turn .loop .i < 31
-  cell = omega (arith, inside (start .pre .0), codes-few (start .pre .0))
+  cell = let k = start .pre .1 .0 in omega (arith, inside k, codes-few k)
 
-  few : getD (now (start .args .lines)) (turn .loop .i) 0 ≤ 65536
-  few = let k = start .pre .0 in omega (arith, start .pre .1 k (turn .loop .i) (inside k), lines-few k (turn .loop .i) (inside k))
+  room : RoomFor (turn .loop .at) (1 + count) (turn .loop .words)
+  room =
+      let k = start .pre .1 .0 in
+      room-part (start .pre .1 .1) (turn .loop .at) (1 + count) (turn .loop .inv .1)
+      (node-inside k (turn .loop .i) (inside k) count (start .pre .0 k (turn .loop .i) (inside k)) (start .args .first) (turn .loop .at) (turn .loop .inv .3 k .numbers)) (turn .loop .inv .2)
 
 mul-count : tie.Need-mul-count Inv-loop μ-loop
 mul-count c = omega (arith, cell c)
@@ -50,19 +58,15 @@ element-copy-out-count c = cell c
 put-node-requires : tie.Need-put-node-requires Inv-loop μ-loop
 put-node-requires c κs =
     let w = c .before .before in
-    let l = turn w in
-    let s = start w in (
-      l .loop .inv .1,
-      omega (arith, l .loop .inv .2, s .pre .3, cell w),
-      λ h. s .pre .1 h (l .loop .i) (inside w h),
-      (s .pre .0, inside w (s .pre .0)),
-    )
+    let s = start w in
+    let i = turn w .loop .i in
+    (record { kept = (s .pre .1 .0, inside w (s .pre .1 .0)); lines = λ h. s .pre .0 h i (inside w h) }, room w)
 
 add-at : tie.Need-add-at Inv-loop μ-loop
-add-at c = omega (arith, few (c .before .before .before .before .before))
+add-at c = omega (arith, room (c .before .before .before .before .before) .numbers)
 
 add-at-2 : tie.Need-add-at-2 Inv-loop μ-loop
-add-at-2 c = let w = c .before .before .before .before .before in omega (arith, few w, cell w, start w .pre .3, turn w .loop .inv .2)
+add-at-2 c = omega (arith, room (c .before .before .before .before .before) .numbers)
 
 add-i : tie.Need-add-i Inv-loop μ-loop
 add-i c = omega (arith, cell (c .before .before .before .before .before))
@@ -78,21 +82,21 @@ loop-again c =
     let s = start w in (
       omega (arith, w .loop-test .taken),
       omega arith,
-      omega (arith, few w, l .loop .inv .2),
-      r .put-node .kept .1 .1 .1 .1 .0 ∙ l .loop .inv .3,
+      r .put-node .kept .1 .1 .1 .1 .0 ∙ l .loop .inv .2,
       λ h.
-          put-turn h (l .loop .i) (inside w h) _ (s .pre .1 h (l .loop .i) (inside w h)) (s .args .first) (l .loop .at) (now (s .args .words)) (l .loop .words) _ (r .put-node .ensures h) (l .loop .inv .4 h),
+          put-turn h (l .loop .i) (inside w h) _ (s .pre .0 h (l .loop .i) (inside w h)) (s .args .first) (l .loop .at) (now (s .args .words)) (l .loop .words) _ (r .put-node .ensures h)
+          (l .loop .inv .3 h),
     )
 
 same-length : tie.Need-same-length Inv-loop μ-loop
-same-length c = c .before .loop .inv .3
+same-length c = c .before .loop .inv .2
 
 returns : tie.Need-returns Inv-loop μ-loop
 returns c =
     let l = c .before in
     let s = l .before .before .before in
     λ h.
-    put-end h (l .loop .i) (omega (arith, c .loop-test .left, l .before .length-at .ensures (h .condition) (condition-held h))) (s .args .first) (l .loop .at) (now (s .args .words)) (l .loop .words) (l .loop .inv .4 h)
+    put-end h (l .loop .i) (omega (arith, c .loop-test .left, l .before .length-at .ensures (h .condition) (condition-held h))) (s .args .first) (l .loop .at) (now (s .args .words)) (l .loop .words) (l .loop .inv .3 h)
 
 pub put-nodes-spec : {M : Type 1} → statement M
 put-nodes-spec =

@@ -37,19 +37,19 @@ returns : tie.Need-returns
 returns c t k e =
     let s = c .before .before in
     both-back w64 _*ℤ_ (s .args .limit) (pos 100) (s .fits .limit) (record { sfits = omega arith }) (hundred s)
-    ∙ next-hundredfold (s .args .o) (c .enum-told .given .1) (s .args .limit) t k e
+    ∙ next-hundredfold (s .args .operator) (c .enum-told .given .1) (s .args .limit) t k e
 
 returns-2 : tie.Need-returns-2
 unfolding limitOf
-returns-2 c t k e = let s = c .before .before in back s ∙ next-same (s .args .o) _ (c .enum-told2 .given .1) (λ t k. refl) (s .args .limit) t k e
+returns-2 c t k e = let s = c .before .before in back s ∙ next-same (s .args .operator) _ (c .enum-told2 .given .1) (λ t k. refl) (s .args .limit) t k e
 
 returns-3 : tie.Need-returns-3
 unfolding limitOf
-returns-3 c t k e = let s = c .before .before in back s ∙ next-same (s .args .o) _ (c .enum-told3 .given .1) (λ t k. refl) (s .args .limit) t k e
+returns-3 c t k e = let s = c .before .before in back s ∙ next-same (s .args .operator) _ (c .enum-told3 .given .1) (λ t k. refl) (s .args .limit) t k e
 
 returns-4 : tie.Need-returns-4
 unfolding limitOf
-returns-4 c t k e = let s = c .before .before in back s ∙ next-same (s .args .o) _ (c .enum-told4 .given .1) (λ t k. refl) (s .args .limit) t k e
+returns-4 c t k e = let s = c .before .before in back s ∙ next-same (s .args .operator) _ (c .enum-told4 .given .1) (λ t k. refl) (s .args .limit) t k e
 
 pub next-limit-spec : {M : Type 1} → statement M
 next-limit-spec =

@@ -19,29 +19,29 @@ use Rattle.peal.specs.declared.Operator.{Operator}
 use Rattle.book.specs.Cells.{storedPolicy}
 use Rattle.book.specs.declared.cells.Policy.{Policy as StoredPolicy}
 use Rattle.book.proofs.StoredRules.{count-is, operator-is, signal-at, score-at}
-use Rattle.compiler.specs.Worth.{start, worth, limitOf}
+use Rattle.compiler.specs.Worth.{initial, worth, limitOf}
 use Rattle.compiler.specs.Planning.{ThresholdFits, restOf, nextRule, Row}
 use Rattle.compiler.proofs.LimitLaws.{limit-small}
 use Rattle.compiler.proofs.RowLaws.{row-length, rows-more}
-use Rattle.compiler.proofs.RestLaws.{worth-small, rest-start, rest-next, range-rest, next-signal, kept-room}
+use Rattle.compiler.proofs.RestLaws.{worth-small, rest-initial, rest-next, range-rest, next-signal, kept-room}
 use Rattle.compiler.proofs.planning.planned.Statement.{statement}
 use Rattle.compiler.proofs.planning.planned.Tie as tie
 
 abbrev Inv-loop : tie.InvT-loop
-Inv-loop t p o n limit₀ rest₀ plan₀ k₀ limit rest plan k =
-    (length plan ≡ 68) × (k ≤ p .count) × (toZ w64 limit ≡ limitOf (p .operator) (toZ w32 t) k)
-    × ((q : Policy) → p ≡ storedPolicy q → toZ w64 rest ≡ worth (q .operator) (restOf k (q .rules)))
-    × ((q : Policy) → p ≡ storedPolicy q → (j : ℕ) → j ≤ k → Row plan q (toZ w32 t) j)
+Inv-loop threshold policy operator count limit₀ rest₀ plan₀ k₀ limit rest plan k =
+    (length plan ≡ 68) × (k ≤ policy .count) × (toZ w64 limit ≡ limitOf (policy .operator) (toZ w32 threshold) k)
+    × ((q : Policy) → policy ≡ storedPolicy q → toZ w64 rest ≡ worth (q .operator) (restOf k (q .rules)))
+    × ((q : Policy) → policy ≡ storedPolicy q → (j : ℕ) → j ≤ k → Row plan q (toZ w32 threshold) j)
 
 abbrev μ-loop : tie.MeasureT-loop
-μ-loop t p o n limit₀ rest₀ plan₀ k₀ limit rest plan k = p .count - k
+μ-loop threshold policy operator count limit₀ rest₀ plan₀ k₀ limit rest plan k = policy .count - k
 
--- the start, and where a turn of the loop begins
+-- the start
 abbrev first : tie.At-loop Inv-loop μ-loop → tie.Start Inv-loop μ-loop
 first l = l .before .before .before .before .before
 
-back : (s : tie.Start Inv-loop μ-loop) → toZ w32 (ofZ w32 (s .args .t)) ≡ s .args .t
-back s = toZ-ofZ w32 (s .args .t) (s .fits .t)
+back : (s : tie.Start Inv-loop μ-loop) → toZ w32 (ofZ w32 (s .args .threshold)) ≡ s .args .threshold
+back s = toZ-ofZ w32 (s .args .threshold) (s .fits .threshold)
 
 room : (s : tie.Start Inv-loop μ-loop) → s .args .t1 .count ≤ 16
 room s = kept-room (s .pre .0)
@@ -49,8 +49,8 @@ room s = kept-room (s .pre .0)
 first-limit-requires : tie.Need-first-limit-requires Inv-loop μ-loop
 first-limit-requires c κs = tt
 
-start-requires : tie.Need-start-requires Inv-loop μ-loop
-start-requires c κs = tt
+initial-requires : tie.Need-initial-requires Inv-loop μ-loop
+initial-requires c κs = tt
 
 put-row-requires : tie.Need-put-row-requires Inv-loop μ-loop
 put-row-requires c κs = omega arith
@@ -60,14 +60,14 @@ loop-holds c =
     let b = c .before .before in
     let f = b .before in
     let p = f .before .args .t1 in
-    let T = toZ w32 (ofZ w32 (f .before .args .t)) in
+    let T = toZ w32 (ofZ w32 (f .before .args .threshold)) in
     let limit = toZ w64 (ofZ w64 (f .first-limit .result)) in
-    let rest = toZ w64 (ofZ w64 (b .start .result)) in
+    let rest = toZ w64 (ofZ w64 (b .initial .result)) in
     let limit-fits : SFits w64 (f .first-limit .result) = search needs in
-    let rest-fits : SFits w64 (b .start .result) = search needs in
+    let rest-fits : SFits w64 (b .initial .result) = search needs in
     let limit-is : limit ≡ limitOf (p .operator) T 0 = toZ-ofZ w64 (f .first-limit .result) limit-fits ∙ f .first-limit .ensures in
     let rest-is : (q : Policy) → p ≡ storedPolicy q → rest ≡ worth (q .operator) (restOf 0 (q .rules)) =
-    λ q e. toZ-ofZ w64 (b .start .result) rest-fits ∙ b .start .ensures ∙ ap start (operator-is p q e) ∙ rest-start (q .operator) (q .rules) in (
+    λ q e. toZ-ofZ w64 (b .initial .result) rest-fits ∙ b .initial .ensures ∙ ap initial (operator-is p q e) ∙ rest-initial (q .operator) (q .rules) in (
       ap length (c .put-row .ensures) ∙ row-length (replicate 68 (pos 0)) 0 limit rest (pos 0) (pos 0),
       omega arith,
       limit-is,
@@ -109,7 +109,7 @@ module _ (c : tie.After-score Inv-loop μ-loop) where
   p = s .args .t1
 
   abbrev T : ℤ
-  T = toZ w32 (ofZ w32 (s .args .t))
+  T = toZ w32 (ofZ w32 (s .args .threshold))
 
   abbrev k : ℕ
   k = turn .loop .k + 1
@@ -253,7 +253,7 @@ planned-spec =
     Inv-loop
     μ-loop
     first-limit-requires
-    start-requires
+    initial-requires
     put-row-requires
     loop-holds
     add-k

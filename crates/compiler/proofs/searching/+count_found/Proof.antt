@@ -1,31 +1,29 @@
 -- `compiler::searching::count_found`: what is left to be found is all that is left to be counted; each call has fewer rules to come.
-use Prim.Native.Nat.{ℕ, _+_, _-_, _*_, _<_, _≤_}
-use mathlib.Core.Bool.{true, false}
-use mathlib.Core.List.{List, [], _∷_, _++_}
-use mathlib.Core.Path.{_≡_, sym, ap, subst, _∙_}
+use Prim.Native.Nat.{ℕ, _+_, _-_, _<_, _≤_}
+use mathlib.Core.Bool.{true}
+use mathlib.Core.Path.{_≡_, refl, sym, ap, subst, _∙_}
+use native.Mathlib.Nat.{zero-add}
 use native.Mathlib.Omega.{arith}
 use borrow.Author.Needs.{needs}
 use borrow.Author.Tests.{not-true, not-false}
 use borrow.Fn.Kinds.{In}
 use borrow.Fn.PlainCycle.{Measures, is, falls, and}
 use denote.Ref.{now}
-use lib.IntN.{ℤ, pos}
-use lib.ListN.{length, getD}
+use lib.IntN.{ℤ}
+use lib.ListN.{length}
 use mir.Syntax.{w64}
 use mir.Val.{SFits, toZ, ofZ}
 use mir.ValLaws.{toZ-ofZ}
-use Rattle.peal.specs.Policies.{Rule, Policy}
-use Rattle.peal.specs.Lines.{has}
-use Rattle.compiler.specs.Planning.{restOf, nextRule}
-use Rattle.compiler.specs.Searching.{Searching, CanSearch, found}
-use Rattle.compiler.proofs.SearchingLaws.{taken-few, none-coming, taken-in, next-small, tried, tried-further, nothing-found, found-none, found-few}
-use Rattle.compiler.proofs.UnderwayLaws.{Underway, ended, room, passed, one-more}
+use Rattle.compiler.specs.Searching.{Point, having, allAt, taking, found, Searching}
+use Rattle.compiler.proofs.PointLaws.{taken-few, none-coming, taken-in, next-small}
+use Rattle.compiler.proofs.FoundLaws.{nothing-found, found-none, found-few}
+use Rattle.compiler.proofs.SearchTurns.{Underway, ended, one-room, one-done, more-room, more-done, counting}
 use Rattle.compiler.proofs.searching.count_found.Reads as counted
 use Rattle.compiler.proofs.searching.count_found.Kinds as count-kinds
 use Rattle.compiler.proofs.searching.+count_found.Lts-count_found as lts
 use Rattle.compiler.proofs.searching.can_reach.Reads as can-reach
 use Rattle.compiler.proofs.searching.has_reached.Reads as has-reached
-use Rattle.peal.proofs.combined.Reads as combined
+use Rattle.compiler.proofs.searching.next_value.Reads as next-value
 use Rattle.compiler.proofs.searching.+count_found.{statement}
 use Rattle.compiler.proofs.searching.+count_found.Tie.{close}
 
@@ -40,204 +38,161 @@ abbrev count-below : ℕ → In 1 count-kinds.ps
 count-below t = and 1 count-kinds.ps (falls 1 count-kinds.ps _<_ μ-count t) counted.Pre
 
 abbrev calls : ℕ → lts.Claims
-calls t = (can-reach.Asked, can-reach.Learnt, combined.Asked, combined.Learnt, has-reached.Asked, has-reached.Learnt, count-below t, counted.Post)
+calls t = (can-reach.Asked, can-reach.Learnt, next-value.Asked, next-value.Learnt, has-reached.Asked, has-reached.Learnt, count-below t, counted.Post)
 
 abbrev Inv-loop : lts.InvT-loop
-Inv-loop o plan count value rank sets₀ left₀ sets left =
-    (left ≤ rank)
-    × ((q : Policy) (t : ℤ) (X : List Rule) → Searching o plan count (toZ w64 value) rank q t X
-    → Underway o plan count (toZ w64 value) q t X (length (found q t X rank)) sets left)
+Inv-loop operator plan count value rank sets₀ left₀ sets left =
+    (left ≤ rank) × ((p : Point) → Searching operator plan count (toZ w64 value) rank p → Underway counting operator plan count (toZ w64 value) p 0 rank sets left)
 
 abbrev μ-loop : lts.MeasureT-loop
-μ-loop o plan count value rank sets₀ left₀ sets left = left
+μ-loop operator plan count value rank sets₀ left₀ sets left = left
 
--- the start, and what is asked for, with the value as it is read back
-module _ (t : ℕ) (s : lts.Start (calls t) (count-at t) counted.Post Inv-loop μ-loop) where
-  abbrev value : ℤ
-  value = toZ w64 (ofZ w64 (s .args .value))
+module _ (t : ℕ) where
+  abbrev First : Type 0
+  First = lts.Start (calls t) (count-at t) counted.Post Inv-loop μ-loop
 
-  as-read : {q : Policy} {T : ℤ} {X : List Rule} → Searching (s .args .o) (now (s .args .plan)) (s .args .count) (s .args .value) (s .args .rank) q T X
-      → Searching (s .args .o) (now (s .args .plan)) (s .args .count) value (s .args .rank) q T X
-  as-read {q} {T} {X} h =
-      subst (λ (v : ℤ). Searching (s .args .o) (now (s .args .plan)) (s .args .count) v (s .args .rank) q T X)
-      (sym (toZ-ofZ w64 (s .args .value) (s .fits .value))) h
+  abbrev Turn : Type 0
+  Turn = lts.In-loop (calls t) (count-at t) counted.Post Inv-loop μ-loop
 
-  abbrev asked : CanSearch (s .args .o) (now (s .args .plan)) (s .args .count) value (s .args .rank)
-  asked = let a = s .pre .1 in (a .0, a .1, a .2, as-read (a .3))
+  abbrev Taking : Type 0
+  Taking = lts.After-next-value (calls t) (count-at t) counted.Post Inv-loop μ-loop
 
--- before the rule is tried: what is underway, of the sets that are asked for
-module _ (t : ℕ) (c : lts.In-loop (calls t) (count-at t) counted.Post Inv-loop μ-loop) where
-  abbrev start : lts.Start (calls t) (count-at t) counted.Post Inv-loop μ-loop
-  start = c .before .before
+  -- ---- the point, with the value as it is read back
 
-  abbrev left : ℕ
-  left = c .before .loop .left
+  abbrev value : First → ℤ
+  value s = toZ w64 (ofZ w64 (s .args .value))
 
-  abbrev UnderwayHere : (q : Policy) (T : ℤ) (X : List Rule) → ℕ → Type 0
-  UnderwayHere q T X number = Underway (start .args .o) (now (start .args .plan)) (start .args .count) (value t start) q T X number (c .before .loop .sets) left
+  abbrev At : First → ℤ → ℕ → Point → Type 0
+  At s v left p = Searching (s .args .operator) (now (s .args .plan)) (s .args .count) v left p
 
-  underway-here : UnderwayHere (asked t start .0) (asked t start .1) (asked t start .2) (length (found (asked t start .0) (asked t start .1) (asked t start .2) (start .args .rank)))
-  underway-here = c .before .loop .inv .1 (asked t start .0) (asked t start .1) (asked t start .2) (asked t start .3)
+  back : (s : First) {p : Point} → At s (s .args .value) (s .args .rank) p → At s (value s) (s .args .rank) p
+  back s {p} h = subst (λ (v : ℤ). At s v (s .args .rank) p) (sym (toZ-ofZ w64 (s .args .value) (s .fits .value))) h
 
-  few : start .args .count + left ≤ 16
-  few = taken-few (underway-here .here)
+  loop-holds : lts.Need-loop-holds (calls t) (count-at t) counted.Post Inv-loop μ-loop
+  loop-holds c = (omega arith, λ p h. record { here = h; leads = refl })
 
-loop-holds : (t : ℕ) → lts.Need-loop-holds (calls t) (count-at t) counted.Post Inv-loop μ-loop
-loop-holds t c = (omega arith, λ q T X h. record { here = h; numbers = omega arith })
+  -- ---- a turn
 
-can-reach-requires : (t : ℕ) → lts.Need-can-reach-requires (calls t) (count-at t) counted.Post Inv-loop μ-loop
-can-reach-requires t c κs = let a = asked t (start t c) in (a .0, a .1, a .2, underway-here t c .here)
+  module _ (c : Turn) where
+    abbrev first : First
+    first = c .before .before
 
-returns : (t : ℕ) → lts.Need-returns (calls t) (count-at t) counted.Post Inv-loop μ-loop
-returns t c q T X h =
-    let l = c .before .before in
-    let u = l .before .loop .inv .1 q T X (as-read t (start t l) h) in
-    ended u (nothing-found (l .loop-test .taken) (u .here) (sym (c .before .can-reach .ensures q T X (u .here)) ∙ not-true _ (c .if1 .taken)))
+    abbrev left : ℕ
+    left = c .before .loop .left
 
--- ---- the value with the rule
+    abbrev point : Point
+    point = first .pre .1 .0
 
-mul-combined : (t : ℕ) → lts.Need-mul-combined (calls t) (count-at t) counted.Post Inv-loop μ-loop
-mul-combined t c = record { fits = omega (arith, few t (c .before .before)) }
+    -- at the point that is asked for
+    asked : Underway counting (first .args .operator) (now (first .args .plan)) (first .args .count) (value first) point 0 (first .args .rank) (c .before .loop .sets) left
+    asked = c .before .loop .inv .1 point (back first (first .pre .1 .1))
 
-add-combined : (t : ℕ) → lts.Need-add-combined (calls t) (count-at t) counted.Post Inv-loop μ-loop
-add-combined t c = record { fits = omega (arith, few t (c .before .before)) }
+    few : first .args .count + left ≤ 16
+    few = taken-few (asked .here)
 
-mul-combined-2 : (t : ℕ) → lts.Need-mul-combined-2 (calls t) (count-at t) counted.Post Inv-loop μ-loop
-mul-combined-2 t c = record { fits = omega (arith, few t (c .before .before)) }
+  can-reach-requires : lts.Need-can-reach-requires (calls t) (count-at t) counted.Post Inv-loop μ-loop
+  can-reach-requires c κs = (point c, asked c .here)
 
-element-copy-out-combined : (t : ℕ) → lts.Need-element-copy-out-combined (calls t) (count-at t) counted.Post Inv-loop μ-loop
-element-copy-out-combined t c = omega (arith, few t (c .before .before))
+  returns : lts.Need-returns (calls t) (count-at t) counted.Post Inv-loop μ-loop
+  returns c p h =
+      let l = c .before .before in
+      let u = l .before .loop .inv .1 p (back (first l) h) in
+      ended u (nothing-found (l .loop-test .taken) (u .here) (sym (c .before .can-reach .ensures p (u .here)) ∙ not-true _ (c .if1 .taken))) ∙ zero-add _
 
-module _ (t : ℕ) (c : lts.After-combined-arg (calls t) (count-at t) counted.Post Inv-loop μ-loop) where
-  abbrev trying : lts.In-loop (calls t) (count-at t) counted.Post Inv-loop μ-loop
-  trying = c .before .before .before
+  next-value-requires : lts.Need-next-value-requires (calls t) (count-at t) counted.Post Inv-loop μ-loop
+  next-value-requires c κs = let l = c .before .before in (omega (arith, few l), next-small (l .loop-test .taken) (asked l .here))
 
-  abbrev score : ℤ
-  score = getD (now (start t trying .args .plan)) (left t trying * 4 + 2) (pos 0)
+  -- with the next rule
+  module _ (c : Taking) where
+    abbrev turn : Turn
+    turn = c .before .before .before
 
-  score-back : toZ w64 (ofZ w64 score) ≡ score
-  score-back = toZ-ofZ w64 score (record { sfits = c .combined-arg .given })
+    abbrev begun : First
+    begun = first turn
 
-combined-requires : (t : ℕ) → lts.Need-combined-requires (calls t) (count-at t) counted.Post Inv-loop μ-loop
-combined-requires t c κs = let l = trying t c in next-small (l .loop-test .taken) (underway-here t l .here) (score-back t c)
+    module _ {p : Point} (h : At begun (value begun) (left turn) p) where
+      reach : having p (allAt p (left turn)) ≡ true
+      reach = sym (c .before .before .can-reach .ensures p h) ∙ not-false _ (c .before .if1 .left)
 
--- after the rule is taken, of sets that are underway
-module _ (t : ℕ) (c : lts.After-combined (calls t) (count-at t) counted.Post Inv-loop μ-loop) where
-  abbrev turn : lts.In-loop (calls t) (count-at t) counted.Post Inv-loop μ-loop
-  turn = trying t (c .before)
+      taken : Searching (begun .args .operator) (now (begun .args .plan)) (begun .args .count + 1) (toZ w64 (ofZ w64 (c .next-value .result))) (left turn - 1) (taking p (left turn))
+      taken =
+          let fits : SFits w64 (c .next-value .result) = search needs in
+          taken-in (turn .loop-test .taken) h (toZ-ofZ w64 (c .next-value .result) fits ∙ c .next-value .ensures)
 
-  abbrev first : lts.Start (calls t) (count-at t) counted.Post Inv-loop μ-loop
-  first = start t turn
+  sub-left : lts.Need-sub-left (calls t) (count-at t) counted.Post Inv-loop μ-loop
+  sub-left c = omega (arith, turn c .loop-test .taken)
 
-  abbrev v : ℤ
-  v = toZ w64 (ofZ w64 (c .combined .result))
+  add-has-reached : lts.Need-add-has-reached (calls t) (count-at t) counted.Post Inv-loop μ-loop
+  add-has-reached c = record { fits = omega (arith, few (turn c)) }
 
-  module _ {q : Policy} {T : ℤ} {X : List Rule} {number : ℕ} (u : UnderwayHere t turn q T X number) where
-    abbrev Y : List Rule
-    Y = X ++ (nextRule q (left t turn) ∷ [])
+  has-reached-requires : lts.Need-has-reached-requires (calls t) (count-at t) counted.Post Inv-loop μ-loop
+  has-reached-requires c κs = (_, none-coming (taken c (asked (turn c) .here)))
 
-    reach : has (q .operator) T (X ++ restOf (left t turn) (q .rules)) ≡ true
-    reach = sym (c .before .before .before .can-reach .ensures q T X (u .here)) ∙ not-false _ (c .before .before .if1 .left)
+  -- whether it has the property
+  tested : (c : lts.After-has-reached (calls t) (count-at t) counted.Post Inv-loop μ-loop) {p : Point} (h : At (begun (c .before)) (value (begun (c .before))) (left (turn (c .before))) p)
+      → having p (taking p (left (turn (c .before))) .taken) ≡ c .has-reached .result
+  tested c h = sym (c .has-reached .ensures _ (none-coming (taken (c .before) h)))
 
-    searched : Searching (first .args .o) (now (first .args .plan)) (first .args .count + 1) v (left t turn - 1) q T Y
-    searched =
-        let fits : SFits w64 (c .combined .result) = search needs in
-        taken-in (turn .loop-test .taken) (u .here) (score-back t (c .before)) (toZ-ofZ w64 (c .combined .result) fits ∙ c .combined .ensures)
+  -- ---- it has: it is the one set found
 
-    tested : Searching (first .args .o) (now (first .args .plan)) (first .args .count + 1) v 0 q T Y
-    tested = none-coming searched
-
-  -- the sets found with the rule are few, of the sets that are asked for
-  room-here : let a = asked t first in turn .before .loop .sets + length (tried (a .0) (a .1) (Y (underway-here t turn)) (left t turn - 1)) ≤ 65536
-  room-here =
-      let a = asked t first in
-      let u = underway-here t turn in
-      omega (arith, room u (turn .loop-test .taken) (reach u), found-few (a .3))
-
-sub-left : (t : ℕ) → lts.Need-sub-left (calls t) (count-at t) counted.Post Inv-loop μ-loop
-sub-left t c = omega (arith, turn t c .loop-test .taken)
-
-add-has-reached : (t : ℕ) → lts.Need-add-has-reached (calls t) (count-at t) counted.Post Inv-loop μ-loop
-add-has-reached t c = record { fits = omega (arith, few t (turn t c)) }
-
-has-reached-requires : (t : ℕ) → lts.Need-has-reached-requires (calls t) (count-at t) counted.Post Inv-loop μ-loop
-has-reached-requires t c κs =
-    let a = asked t (first t c) in
-    let u = underway-here t (turn t c) in
-    (a .0, a .1, Y t c u, tested t c u)
-
--- ---- it has the property: it is the one set found
-
-module _ (t : ℕ) (c : lts.Then2 (calls t) (count-at t) counted.Post Inv-loop μ-loop) {q : Policy} {T : ℤ} {X : List Rule} {number : ℕ} (u : UnderwayHere t (turn t (c .before .before)) q T X number) where
-  one-found : let l = turn t (c .before .before) in l .before .loop .sets + 1 ≡ l .before .loop .sets + length (tried q T (Y t (c .before .before) u) (left t l - 1))
-  one-found =
+  add-sets : lts.Need-add-sets (calls t) (count-at t) counted.Post Inv-loop μ-loop
+  add-sets c =
       let w = c .before .before in
-      one-more q T (Y t w u) (left t (turn t w) - 1) (sym (c .before .has-reached .ensures q T _ (tested t w u)) ∙ c .if2 .taken) (turn t w .before .loop .sets)
+      let l = turn w in
+      let u = asked l in
+      record { fits = omega (arith, one-room u (l .loop-test .taken) (reach w (u .here)) (tested (c .before) (u .here) ∙ c .if2 .taken), found-few (first l .pre .1 .1)) }
 
-add-sets : (t : ℕ) → lts.Need-add-sets (calls t) (count-at t) counted.Post Inv-loop μ-loop
-add-sets t c = let w = c .before .before in record { fits = omega (arith, one-found t c (underway-here t (turn t w)), room-here t w) }
+  loop-less : lts.Need-loop-less (calls t) (count-at t) counted.Post Inv-loop μ-loop
+  loop-less c = omega (arith, turn (c .before .before) .loop-test .taken)
 
-loop-less : (t : ℕ) → lts.Need-loop-less (calls t) (count-at t) counted.Post Inv-loop μ-loop
-loop-less t c = omega (arith, turn t (c .before .before) .loop-test .taken)
+  loop-again : lts.Need-loop-again (calls t) (count-at t) counted.Post Inv-loop μ-loop
+  loop-again c =
+      let w = c .before .before in
+      let l = turn w in (
+        omega (arith, l .before .loop .inv .0),
+        λ p h. let u = l .before .loop .inv .1 p h in one-done u (l .loop-test .taken) (reach w (u .here)) (tested (c .before) (u .here) ∙ c .if2 .taken) refl,
+      )
 
-loop-again : (t : ℕ) → lts.Need-loop-again (calls t) (count-at t) counted.Post Inv-loop μ-loop
-loop-again t c =
-    let w = c .before .before in
-    let l = turn t w in (
-      omega (arith, l .before .loop .inv .0),
-      λ q T X h. let u = l .before .loop .inv .1 q T X h in passed u (l .loop-test .taken) (reach t w u) (one-found t c u),
-    )
+  -- ---- it has not: the search goes on from it
 
--- ---- it has not: the search goes on from it
+  add-count-found : lts.Need-add-count-found (calls t) (count-at t) counted.Post Inv-loop μ-loop
+  add-count-found c = record { fits = omega (arith, few (turn (c .before .before))) }
 
-add-count-found : (t : ℕ) → lts.Need-add-count-found (calls t) (count-at t) counted.Post Inv-loop μ-loop
-add-count-found t c = record { fits = omega (arith, few t (turn t (c .before .before))) }
+  count-found-requires : lts.Need-count-found-requires (calls t) (count-at t) counted.Post Inv-loop μ-loop
+  count-found-requires c κs =
+      let w = c .before .before in
+      let l = turn w in
+      (omega (arith, l .loop-test .taken, l .before .loop .inv .0, first l .pre .0), (_, taken w (asked l .here)))
 
-lacking : (t : ℕ) (c : lts.Else2 (calls t) (count-at t) counted.Post Inv-loop μ-loop) {q : Policy} {T : ℤ} {X : List Rule} {number : ℕ} (u : UnderwayHere t (turn t (c .before .before)) q T X number)
-    → has (q .operator) T (Y t (c .before .before) u) ≡ false
-lacking t c u = sym (c .before .has-reached .ensures _ _ _ (tested t (c .before .before) u)) ∙ c .if2 .left
+  module _ (c : lts.After-count-found (calls t) (count-at t) counted.Post Inv-loop μ-loop) where
+    abbrev with-it : Taking
+    with-it = c .before .before .before
 
-count-found-requires : (t : ℕ) → lts.Need-count-found-requires (calls t) (count-at t) counted.Post Inv-loop μ-loop
-count-found-requires t c κs =
-    let w = c .before .before in
-    let l = turn t w in
-    let s = first t w in
-    let a = asked t s in
-    let u = underway-here t l in (
-      omega (arith, l .loop-test .taken, l .before .loop .inv .0, s .pre .0),
-      (a .0, a .1, Y t w u, searched t w u),
-    )
+    -- how many are counted with it
+    so-many : {p : Point} → At (begun with-it) (value (begun with-it)) (left (turn with-it)) p
+        → turn with-it .before .loop .sets + c .count-found .result ≡ turn with-it .before .loop .sets + length (found (taking p (left (turn with-it))) (left (turn with-it) - 1))
+    so-many h = ap (λ (n : ℕ). turn with-it .before .loop .sets + n) (c .count-found .ensures _ (taken with-it h))
 
-module _ (t : ℕ) (c : lts.After-count-found (calls t) (count-at t) counted.Post Inv-loop μ-loop) where
-  abbrev taking : lts.After-combined (calls t) (count-at t) counted.Post Inv-loop μ-loop
-  taking = c .before .before .before
+  add-sets-2 : lts.Need-add-sets-2 (calls t) (count-at t) counted.Post Inv-loop μ-loop
+  add-sets-2 c =
+      let w = with-it c in
+      let l = turn w in
+      let u = asked l in
+      record { fits = omega (arith, so-many c (u .here), more-room u (l .loop-test .taken) (reach w (u .here)) (tested (c .before .before) (u .here) ∙ c .before .if2 .left), found-few (first l .pre .1 .1)) }
 
-  abbrev this : lts.In-loop (calls t) (count-at t) counted.Post Inv-loop μ-loop
-  this = turn t taking
+  loop-less-2 : lts.Need-loop-less-2 (calls t) (count-at t) counted.Post Inv-loop μ-loop
+  loop-less-2 c = omega (arith, turn (with-it c) .loop-test .taken)
 
-  more-found : {q : Policy} {T : ℤ} {X : List Rule} {number : ℕ} (u : UnderwayHere t this q T X number)
-      → this .before .loop .sets + c .count-found .result ≡ this .before .loop .sets + length (tried q T (Y t taking u) (left t this - 1))
-  more-found {q} {T} u =
-      ap (λ (n : ℕ). this .before .loop .sets + n) (c .count-found .ensures q T (Y t taking u) (searched t taking u))
-      ∙ ap (λ (F : List (List Rule)). this .before .loop .sets + length F) (sym (tried-further q T (Y t taking u) (left t this - 1) (lacking t (c .before) u)))
+  loop-again-2 : lts.Need-loop-again-2 (calls t) (count-at t) counted.Post Inv-loop μ-loop
+  loop-again-2 c =
+      let w = with-it c in
+      let l = turn w in (
+        omega (arith, l .before .loop .inv .0),
+        λ p h. let u = l .before .loop .inv .1 p h in more-done u (l .loop-test .taken) (reach w (u .here)) (tested (c .before .before) (u .here) ∙ c .before .if2 .left) (so-many c (u .here)),
+      )
 
-add-sets-2 : (t : ℕ) → lts.Need-add-sets-2 (calls t) (count-at t) counted.Post Inv-loop μ-loop
-add-sets-2 t c = record { fits = omega (arith, more-found t c (underway-here t (this t c)), room-here t (taking t c)) }
-
-loop-less-2 : (t : ℕ) → lts.Need-loop-less-2 (calls t) (count-at t) counted.Post Inv-loop μ-loop
-loop-less-2 t c = omega (arith, this t c .loop-test .taken)
-
-loop-again-2 : (t : ℕ) → lts.Need-loop-again-2 (calls t) (count-at t) counted.Post Inv-loop μ-loop
-loop-again-2 t c =
-    let l = this t c in (
-      omega (arith, l .before .loop .inv .0),
-      λ q T X h. let u = l .before .loop .inv .1 q T X h in passed u (l .loop-test .taken) (reach t (taking t c) u) (more-found t c u),
-    )
-
-returns-2 : (t : ℕ) → lts.Need-returns-2 (calls t) (count-at t) counted.Post Inv-loop μ-loop
-returns-2 t c q T X h =
-    let l = c .before in
-    ended (l .loop .inv .1 q T X (as-read t (l .before) h)) (found-none q T X (l .loop .left) (c .loop-test .left))
+  returns-2 : lts.Need-returns-2 (calls t) (count-at t) counted.Post Inv-loop μ-loop
+  returns-2 c p h = let l = c .before in ended (l .loop .inv .1 p (back (l .before) h)) (found-none p (l .loop .left) (c .loop-test .left)) ∙ zero-add _
 
 pub +count-found-spec : {M : Type 1} → statement M
 +count-found-spec =
@@ -246,11 +201,7 @@ pub +count-found-spec : {M : Type 1} → statement M
     (loop-holds t)
     (can-reach-requires t)
     (returns t)
-    (mul-combined t)
-    (add-combined t)
-    (mul-combined-2 t)
-    (element-copy-out-combined t)
-    (combined-requires t)
+    (next-value-requires t)
     (sub-left t)
     (add-has-reached t)
     (has-reached-requires t)

@@ -1,7 +1,7 @@
 -- `compiler::searching::search`: what is left to be found is all that is left to be put; each call has fewer rules to come.
-use Prim.Native.Nat.{ℕ, _+_, _-_, _*_, _<_, _≤_}
+use Prim.Native.Nat.{ℕ, _+_, _-_, _<_, _≤_}
 use mathlib.Core.Bool.{true}
-use mathlib.Core.List.{List, [], _∷_, _++_}
+use mathlib.Core.List.{[]}
 use mathlib.Core.Path.{_≡_, refl, sym, ap, subst, _∙_}
 use native.Mathlib.Omega.{arith}
 use borrow.Author.Needs.{needs}
@@ -9,26 +9,27 @@ use borrow.Author.Tests.{not-true, not-false}
 use borrow.Fn.Kinds.{In}
 use borrow.Fn.PlainCycle.{Measures, is, falls, and}
 use denote.Ref.{now}
-use lib.IntN.{ℤ, pos, natAbs}
-use lib.ListN.{length, getD}
+use lib.IntN.{ℤ}
+use lib.ListN.{length}
 use mir.Syntax.{w64}
 use mir.Val.{SFits, toZ, ofZ}
 use mir.ValLaws.{toZ-ofZ}
-use Rattle.peal.specs.Policies.{Rule, Policy, maskOf}
-use Rattle.peal.specs.Lines.{has}
-use Rattle.compiler.specs.Putting.{putSets}
-use Rattle.compiler.specs.Planning.{restOf, nextRule}
-use Rattle.compiler.specs.Searching.{Searching, Masked, CanPut, found}
-use Rattle.compiler.proofs.PuttingLaws.{put-length, puts-length}
-use Rattle.compiler.proofs.SearchingLaws.{taken-few, none-coming, taken-in, next-mask, next-mask-fits, next-bit-fits, next-small, tried, tried-itself, tried-further, nothing-found, found-none}
-use Rattle.compiler.proofs.UnderwayLaws.{Underway, ended, further, room, passed, one-more, put-none, put-further, put-one}
+use Rattle.peal.specs.Policies.{maskOf}
+use Rattle.layout.proofs.WritingLaws.{put-length, puts-length}
+use Rattle.compiler.specs.Room.{RoomFor}
+use Rattle.compiler.specs.Searching.{Point, having, allAt, taking, found, Searching, putSets, SetsPut}
+use Rattle.compiler.proofs.RoomLaws.{room-part}
+use Rattle.compiler.proofs.PointLaws.{taken-few, none-coming, taken-in, next-small, next-mask, bit-fits}
+use Rattle.compiler.proofs.FoundLaws.{nothing-found, found-none}
+use Rattle.compiler.proofs.SearchTurns.{Underway, ended, one-room, one-done, more-room, more-done, Put, putting, put-one}
 use Rattle.compiler.proofs.searching.search.Reads as search′
 use Rattle.compiler.proofs.searching.search.Kinds as search-kinds
 use Rattle.compiler.proofs.searching.+search.Lts-search as lts
 use Rattle.compiler.proofs.searching.can_reach.Reads as can-reach
 use Rattle.compiler.proofs.searching.has_reached.Reads as has-reached
-use Rattle.compiler.proofs.writing.put_line.Reads as put-line
-use Rattle.peal.proofs.combined.Reads as combined
+use Rattle.compiler.proofs.searching.next_value.Reads as next-value
+use Rattle.compiler.proofs.searching.next_mask.Reads as mask-with
+use Rattle.layout.proofs.put_line.Reads as put-line
 use Rattle.compiler.proofs.searching.+search.{statement}
 use Rattle.compiler.proofs.searching.+search.Tie.{close}
 
@@ -46,8 +47,10 @@ abbrev calls : ℕ → lts.Claims
 calls t = (
   can-reach.Asked,
   can-reach.Learnt,
-  combined.Asked,
-  combined.Learnt,
+  next-value.Asked,
+  next-value.Learnt,
+  mask-with.Asked,
+  mask-with.Learnt,
   has-reached.Asked,
   has-reached.Learnt,
   put-line.Asked,
@@ -57,319 +60,203 @@ calls t = (
 )
 
 abbrev Inv-loop : lts.InvT-loop
-Inv-loop o plan mask count value rank words₀ at last next₀ left₀ words next left =
-    (left ≤ rank) × (at ≤ next) × (length words ≡ length words₀)
-    × ((q : Policy) (t : ℤ) (X : List Rule) → Masked o plan mask count (toZ w64 value) rank q t X
-    → Underway o plan count (toZ w64 value) q t X (at + length (found q t X rank)) next left
-    × (putSets last words next (found q t X left) ≡ putSets last words₀ at (found q t X rank)))
+Inv-loop operator plan mask count value rank words₀ at last after₀ left₀ words after left =
+    (left ≤ rank) × (0 < after) × (length words ≡ length words₀)
+    × ((p : Point) → Searching operator plan count (toZ w64 value) rank p → mask ≡ maskOf (p .taken)
+    → Underway (putting last) operator plan count (toZ w64 value) p (at, words₀) rank (after, words) left)
 
 abbrev μ-loop : lts.MeasureT-loop
-μ-loop o plan mask count value rank words₀ at last next₀ left₀ words next left = left
+μ-loop operator plan mask count value rank words₀ at last after₀ left₀ words after left = left
 
--- the start, and what is asked for, with the value as it is read back
-module _ (t : ℕ) (s : lts.Start (calls t) (search-at t) search′.Post Inv-loop μ-loop) where
-  abbrev value : ℤ
-  value = toZ w64 (ofZ w64 (s .args .value))
+module _ (t : ℕ) where
+  abbrev First : Type 0
+  First = lts.Start (calls t) (search-at t) search′.Post Inv-loop μ-loop
 
-  as-read : {q : Policy} {T : ℤ} {X : List Rule} → Masked (s .args .o) (now (s .args .plan)) (s .args .mask) (s .args .count) (s .args .value) (s .args .rank) q T X
-      → Masked (s .args .o) (now (s .args .plan)) (s .args .mask) (s .args .count) value (s .args .rank) q T X
-  as-read {q} {T} {X} h =
-      subst (λ (v : ℤ). Masked (s .args .o) (now (s .args .plan)) (s .args .mask) (s .args .count) v (s .args .rank) q T X)
-      (sym (toZ-ofZ w64 (s .args .value) (s .fits .value))) h
+  abbrev Turn : Type 0
+  Turn = lts.In-loop (calls t) (search-at t) search′.Post Inv-loop μ-loop
 
-  abbrev asked : CanPut (s .args .o) (now (s .args .plan)) (s .args .mask) (s .args .count) value (s .args .rank) (s .args .at)
-  asked = let a = s .pre .1 .1 in (a .0, a .1, a .2, as-read (a .3), a .4)
+  abbrev Taking : Type 0
+  Taking = lts.After-next-mask (calls t) (search-at t) search′.Post Inv-loop μ-loop
 
--- before the rule is tried: what is underway, of the sets that are asked for
-module _ (t : ℕ) (c : lts.In-loop (calls t) (search-at t) search′.Post Inv-loop μ-loop) where
-  abbrev start : lts.Start (calls t) (search-at t) search′.Post Inv-loop μ-loop
-  start = c .before .before .before
+  -- ---- the point, with the value as it is read back
 
-  abbrev left : ℕ
-  left = c .before .loop .left
+  abbrev value : First → ℤ
+  value s = toZ w64 (ofZ w64 (s .args .value))
 
-  abbrev UnderwayHere : (q : Policy) (T : ℤ) (X : List Rule) → ℕ → Type 0
-  UnderwayHere q T X number = Underway (start .args .o) (now (start .args .plan)) (start .args .count) (value t start) q T X number (c .before .loop .next) left
+  abbrev At : First → ℤ → ℕ → Point → Type 0
+  At s v left p = Searching (s .args .operator) (now (s .args .plan)) (s .args .count) v left p
 
-  underway-here : UnderwayHere (asked t start .0) (asked t start .1) (asked t start .2)
-      (start .args .at + length (found (asked t start .0) (asked t start .1) (asked t start .2) (start .args .rank)))
-  underway-here = c .before .loop .inv .3 (asked t start .0) (asked t start .1) (asked t start .2) (asked t start .3) .0
+  back : (s : First) {p : Point} → At s (s .args .value) (s .args .rank) p → At s (value s) (s .args .rank) p
+  back s {p} h = subst (λ (v : ℤ). At s v (s .args .rank) p) (sym (toZ-ofZ w64 (s .args .value) (s .fits .value))) h
 
-  few : start .args .count + left ≤ 16
-  few = taken-few (underway-here .here)
+  loop-holds : lts.Need-loop-holds (calls t) (search-at t) search′.Post Inv-loop μ-loop
+  loop-holds c = (omega arith, c .before .pre .1 .3 .begins, refl, λ p h e. record { here = h; leads = refl })
 
-loop-holds : (t : ℕ) → lts.Need-loop-holds (calls t) (search-at t) search′.Post Inv-loop μ-loop
-loop-holds t c = (omega arith, omega arith, refl, λ q u X h. (record { here = h .searching; numbers = refl }, refl))
+  -- ---- a turn
 
-can-reach-requires : (t : ℕ) → lts.Need-can-reach-requires (calls t) (search-at t) search′.Post Inv-loop μ-loop
-can-reach-requires t c κs = let a = asked t (start t c) in (a .0, a .1, a .2, underway-here t c .here)
+  module _ (c : Turn) where
+    abbrev first : First
+    first = c .before .before .before
 
-same-length : (t : ℕ) → lts.Need-same-length (calls t) (search-at t) search′.Post Inv-loop μ-loop
-same-length t c = c .before .before .before .loop .inv .2
+    abbrev left : ℕ
+    left = c .before .loop .left
 
--- nothing more is found
-module _ (t : ℕ) (l : lts.At-loop (calls t) (search-at t) search′.Post Inv-loop μ-loop) (q : Policy) (T : ℤ) (X : List Rule) where
-  abbrev f : lts.Start (calls t) (search-at t) search′.Post Inv-loop μ-loop
-  f = l .before .before
+    abbrev point : Point
+    point = first .pre .1 .0
 
-  over : (h : Masked (f .args .o) (now (f .args .plan)) (f .args .mask) (f .args .count) (f .args .value) (f .args .rank) q T X)
-      → found q T X (l .loop .left) ≡ []
-      → (l .loop .next ≡ f .args .at + length (found q T X (f .args .rank)))
-      × (l .loop .words ≡ putSets (f .args .last) (now (f .args .words)) (f .args .at) (found q T X (f .args .rank)))
-  over h e =
-      let u = l .loop .inv .3 q T X (as-read t f h) in
-      (ended (u .0) e, put-none (f .args .last) (l .loop .words) (l .loop .next) e ∙ u .1)
+    -- at the point that is asked for
+    asked : Underway (putting (first .args .last)) (first .args .operator) (now (first .args .plan)) (first .args .count) (value first) point
+        (first .args .at, now (first .args .words)) (first .args .rank) (c .before .loop .after, c .before .loop .words) left
+    asked = c .before .loop .inv .3 point (back first (first .pre .1 .1)) (first .pre .1 .2)
 
-returns : (t : ℕ) → lts.Need-returns (calls t) (search-at t) search′.Post Inv-loop μ-loop
-returns t c =
-    let l = c .before .before in
-    let s = start t l in
-    let none : (q : Policy) (T : ℤ) (X : List Rule) → Masked (s .args .o) (now (s .args .plan)) (s .args .mask) (s .args .count) (s .args .value) (s .args .rank) q T X
-    → found q T X (left t l) ≡ [] =
-    λ q T X h.
-    let u = l .before .loop .inv .3 q T X (as-read t s h) .0 in
-    nothing-found (l .loop-test .taken) (u .here) (sym (c .before .can-reach .ensures q T X (u .here)) ∙ not-true _ (c .if1 .taken)) in
-    (λ q T X h. over t (l .before) q T X h (none q T X h) .0, λ q T X h. over t (l .before) q T X h (none q T X h) .1)
+    few : first .args .count + left ≤ 16
+    few = taken-few (asked .here)
 
--- ---- the mask with the rule
+    -- so many records have room from here on
+    room : (n : ℕ) → c .before .loop .after + n ≤ first .args .at + length (found point (first .args .rank)) → RoomFor (c .before .loop .after) n (c .before .loop .words)
+    room n h = room-part (first .pre .1 .3) (c .before .loop .after) n (c .before .loop .inv .1) h (c .before .loop .inv .2)
 
-mul-m : (t : ℕ) → lts.Need-mul-m (calls t) (search-at t) search′.Post Inv-loop μ-loop
-mul-m t c = record { fits = omega (arith, few t (c .before .before)) }
+  can-reach-requires : lts.Need-can-reach-requires (calls t) (search-at t) search′.Post Inv-loop μ-loop
+  can-reach-requires c κs = (point c, asked c .here)
 
-add-m : (t : ℕ) → lts.Need-add-m (calls t) (search-at t) search′.Post Inv-loop μ-loop
-add-m t c = record { fits = omega (arith, few t (c .before .before)) }
+  same-length : lts.Need-same-length (calls t) (search-at t) search′.Post Inv-loop μ-loop
+  same-length c = c .before .before .before .loop .inv .2
 
-mul-m-2 : (t : ℕ) → lts.Need-mul-m-2 (calls t) (search-at t) search′.Post Inv-loop μ-loop
-mul-m-2 t c = record { fits = omega (arith, few t (c .before .before)) }
+  -- nothing more is found
+  over : (l : lts.At-loop (calls t) (search-at t) search′.Post Inv-loop μ-loop) (p : Point) (h : At (l .before .before) (l .before .before .args .value) (l .before .before .args .rank) p)
+      → l .before .before .args .mask ≡ maskOf (p .taken) → found p (l .loop .left) ≡ []
+      → SetsPut (l .before .before .args .last) (l .before .before .args .at) (now (l .before .before .args .words)) (found p (l .before .before .args .rank)) (l .loop .after) (l .loop .words)
+  over l p h m e =
+      let u = ended (l .loop .inv .3 p (back (l .before .before) h) m) e in
+      record { number = ap (λ (x : Put). x .0) u; words = ap (λ (x : Put). x .1) u }
 
-element-copy-out-m : (t : ℕ) → lts.Need-element-copy-out-m (calls t) (search-at t) search′.Post Inv-loop μ-loop
-element-copy-out-m t c = omega (arith, few t (c .before .before))
+  returns : lts.Need-returns (calls t) (search-at t) search′.Post Inv-loop μ-loop
+  returns c p h e =
+      let l = c .before .before in
+      let u = l .before .loop .inv .3 p (back (first l) h) e in
+      over (l .before) p h e (nothing-found (l .loop-test .taken) (u .here) (sym (c .before .can-reach .ensures p (u .here)) ∙ not-true _ (c .if1 .taken)))
 
-module _ (t : ℕ) (c : lts.After-m (calls t) (search-at t) search′.Post Inv-loop μ-loop) where
-  abbrev trying : lts.In-loop (calls t) (search-at t) search′.Post Inv-loop μ-loop
-  trying = c .before .before .before
+  next-value-requires : lts.Need-next-value-requires (calls t) (search-at t) search′.Post Inv-loop μ-loop
+  next-value-requires c κs = let l = c .before .before in (omega (arith, few l), next-small (l .loop-test .taken) (asked l .here))
 
-  abbrev bit : ℤ
-  bit = getD (now (start t trying .args .plan)) (left t trying * 4 + 3) (pos 0)
+  next-mask-requires : lts.Need-next-mask-requires (calls t) (search-at t) search′.Post Inv-loop μ-loop
+  next-mask-requires c κs =
+      let l = c .before .before .before in
+      (omega (arith, few l), bit-fits (l .loop-test .taken) (asked l .here) (first l .pre .1 .2))
 
-  bit-back : toZ w64 (ofZ w64 bit) ≡ bit
-  bit-back = toZ-ofZ w64 bit (record { sfits = c .m .given })
+  -- with the next rule
+  module _ (c : Taking) where
+    abbrev turn : Turn
+    turn = c .before .before .before .before
 
-cast-m : (t : ℕ) → lts.Need-cast-m (calls t) (search-at t) search′.Post Inv-loop μ-loop
-cast-m t c = let l = trying t c in next-bit-fits (l .loop-test .taken) (underway-here t l .here) (asked t (start t l) .3 .mask) (bit-back t c)
+    abbrev begun : First
+    begun = first turn
 
-add-m-2 : (t : ℕ) → lts.Need-add-m-2 (calls t) (search-at t) search′.Post Inv-loop μ-loop
-add-m-2 t c = let l = trying t c in next-mask-fits (l .loop-test .taken) (underway-here t l .here) (asked t (start t l) .3 .mask) (bit-back t c)
+    module _ {p : Point} (h : At begun (value begun) (left turn) p) where
+      reach : having p (allAt p (left turn)) ≡ true
+      reach = sym (c .before .before .before .can-reach .ensures p h) ∙ not-false _ (c .before .before .if1 .left)
 
--- ---- the value with the rule
+      taken : Searching (begun .args .operator) (now (begun .args .plan)) (begun .args .count + 1) (toZ w64 (ofZ w64 (c .before .next-value .result))) (left turn - 1) (taking p (left turn))
+      taken =
+          let fits : SFits w64 (c .before .next-value .result) = search needs in
+          taken-in (turn .loop-test .taken) h (toZ-ofZ w64 (c .before .next-value .result) fits ∙ c .before .next-value .ensures)
 
-mul-combined : (t : ℕ) → lts.Need-mul-combined (calls t) (search-at t) search′.Post Inv-loop μ-loop
-mul-combined t c = record { fits = omega (arith, few t (trying t c)) }
+      masked : begun .args .mask ≡ maskOf (p .taken) → c .next-mask .result ≡ maskOf (taking p (left turn) .taken)
+      masked e = c .next-mask .ensures ∙ next-mask (turn .loop-test .taken) h e
 
-add-combined : (t : ℕ) → lts.Need-add-combined (calls t) (search-at t) search′.Post Inv-loop μ-loop
-add-combined t c = record { fits = omega (arith, few t (trying t c)) }
+  sub-left : lts.Need-sub-left (calls t) (search-at t) search′.Post Inv-loop μ-loop
+  sub-left c = omega (arith, turn c .loop-test .taken)
 
-mul-combined-2 : (t : ℕ) → lts.Need-mul-combined-2 (calls t) (search-at t) search′.Post Inv-loop μ-loop
-mul-combined-2 t c = record { fits = omega (arith, few t (trying t c)) }
+  add-has-reached : lts.Need-add-has-reached (calls t) (search-at t) search′.Post Inv-loop μ-loop
+  add-has-reached c = record { fits = omega (arith, few (turn c)) }
 
-element-copy-out-combined : (t : ℕ) → lts.Need-element-copy-out-combined (calls t) (search-at t) search′.Post Inv-loop μ-loop
-element-copy-out-combined t c = omega (arith, few t (trying t c))
+  has-reached-requires : lts.Need-has-reached-requires (calls t) (search-at t) search′.Post Inv-loop μ-loop
+  has-reached-requires c κs = (_, none-coming (taken c (asked (turn c) .here)))
 
-module _ (t : ℕ) (c : lts.After-combined-arg (calls t) (search-at t) search′.Post Inv-loop μ-loop) where
-  abbrev score : ℤ
-  score = let l = trying t (c .before) in getD (now (start t l .args .plan)) (left t l * 4 + 2) (pos 0)
+  -- whether it has the property
+  tested : (c : lts.After-has-reached (calls t) (search-at t) search′.Post Inv-loop μ-loop) {p : Point} (h : At (begun (c .before)) (value (begun (c .before))) (left (turn (c .before))) p)
+      → having p (taking p (left (turn (c .before))) .taken) ≡ c .has-reached .result
+  tested c h = sym (c .has-reached .ensures _ (none-coming (taken (c .before) h)))
 
-  score-back : toZ w64 (ofZ w64 score) ≡ score
-  score-back = toZ-ofZ w64 score (record { sfits = c .combined-arg .given })
+  -- ---- it has: it is the one set found
 
-combined-requires : (t : ℕ) → lts.Need-combined-requires (calls t) (search-at t) search′.Post Inv-loop μ-loop
-combined-requires t c κs = let l = trying t (c .before) in next-small (l .loop-test .taken) (underway-here t l .here) (score-back t c)
+  put-line-requires : lts.Need-put-line-requires (calls t) (search-at t) search′.Post Inv-loop μ-loop
+  put-line-requires c κs =
+      let d = c .before in
+      let w = d .before .before in
+      let l = turn w in
+      let u = asked l in
+      let r = room l 1 (one-room u (l .loop-test .taken) (reach w (u .here)) (tested (d .before) (u .here) ∙ d .if2 .taken)) in
+      (r .begins, r .numbers, omega (arith, r .inside))
 
--- after the rule is taken, of sets that are underway
-module _ (t : ℕ) (c : lts.After-combined (calls t) (search-at t) search′.Post Inv-loop μ-loop) where
-  abbrev turn : lts.In-loop (calls t) (search-at t) search′.Post Inv-loop μ-loop
-  turn = trying t (c .before .before)
+  add-after : lts.Need-add-after (calls t) (search-at t) search′.Post Inv-loop μ-loop
+  add-after c = record { fits = omega (arith, put-line-requires (c .before .before .before) (c .before .before .put-line .lifetimes) .1) }
 
-  abbrev first : lts.Start (calls t) (search-at t) search′.Post Inv-loop μ-loop
-  first = start t turn
+  loop-less : lts.Need-loop-less (calls t) (search-at t) search′.Post Inv-loop μ-loop
+  loop-less c = omega (arith, turn (c .before .before .before .before .before .before) .loop-test .taken)
 
-  abbrev m : ℕ
-  m = first .args .mask + natAbs (toZ w64 (ofZ w64 (bit t (c .before .before))))
+  loop-again : lts.Need-loop-again (calls t) (search-at t) search′.Post Inv-loop μ-loop
+  loop-again c =
+      let p = c .before .before in
+      let d = p .before .before in
+      let w = d .before .before in
+      let l = turn w in
+      let now-words = l .before .loop .words in
+      let n = l .before .loop .after in (
+        omega (arith, l .before .loop .inv .0),
+        omega arith,
+        ap length (p .put-line .ensures) ∙ put-length now-words n _ ∙ l .before .loop .inv .2,
+        λ q h e.
+            let u = l .before .loop .inv .3 q h e in
+            one-done u (l .loop-test .taken) (reach w (u .here)) (tested (d .before) (u .here) ∙ d .if2 .taken)
+            (λ i. (n + 1, (p .put-line .ensures ∙ put-one (first l .args .last) n now-words _ (masked w (u .here) e)) i)),
+      )
 
-  abbrev v : ℤ
-  v = toZ w64 (ofZ w64 (c .combined .result))
+  -- ---- it has not: the search goes on from it
 
-  module _ {q : Policy} {T : ℤ} {X : List Rule} {number : ℕ} (u : UnderwayHere t turn q T X number) where
-    abbrev Y : List Rule
-    Y = X ++ (nextRule q (left t turn) ∷ [])
+  add-search : lts.Need-add-search (calls t) (search-at t) search′.Post Inv-loop μ-loop
+  add-search c = record { fits = omega (arith, few (turn (c .before .before))) }
 
-    reach : has (q .operator) T (X ++ restOf (left t turn) (q .rules)) ≡ true
-    reach = sym (c .before .before .before .before .can-reach .ensures q T X (u .here)) ∙ not-false _ (c .before .before .before .if1 .left)
-
-    searched : Searching (first .args .o) (now (first .args .plan)) (first .args .count + 1) v (left t turn - 1) q T Y
-    searched =
-        let fits : SFits w64 (c .combined .result) = search needs in
-        taken-in (turn .loop-test .taken) (u .here) (score-back t (c .before)) (toZ-ofZ w64 (c .combined .result) fits ∙ c .combined .ensures)
-
-    tested : Searching (first .args .o) (now (first .args .plan)) (first .args .count + 1) v 0 q T Y
-    tested = none-coming searched
-
-    masked : first .args .mask ≡ maskOf X → m ≡ maskOf Y
-    masked e = next-mask (turn .loop-test .taken) (u .here) e (bit-back t (c .before .before))
-
-sub-left : (t : ℕ) → lts.Need-sub-left (calls t) (search-at t) search′.Post Inv-loop μ-loop
-sub-left t c = omega (arith, turn t c .loop-test .taken)
-
-add-has-reached : (t : ℕ) → lts.Need-add-has-reached (calls t) (search-at t) search′.Post Inv-loop μ-loop
-add-has-reached t c = record { fits = omega (arith, few t (turn t c)) }
-
-has-reached-requires : (t : ℕ) → lts.Need-has-reached-requires (calls t) (search-at t) search′.Post Inv-loop μ-loop
-has-reached-requires t c κs =
-    let a = asked t (first t c) in
-    let u = underway-here t (turn t c) in
-    (a .0, a .1, Y t c u, tested t c u)
-
--- ---- it has the property: it is the one set found
-
-has-it : (t : ℕ) (c : lts.Then2 (calls t) (search-at t) search′.Post Inv-loop μ-loop) {q : Policy} {T : ℤ} {X : List Rule} {number : ℕ} (u : UnderwayHere t (turn t (c .before .before)) q T X number)
-    → has (q .operator) T (Y t (c .before .before) u) ≡ true
-has-it t c u = sym (c .before .has-reached .ensures _ _ _ (tested t (c .before .before) u)) ∙ c .if2 .taken
-
-put-line-requires : (t : ℕ) → lts.Need-put-line-requires (calls t) (search-at t) search′.Post Inv-loop μ-loop
-put-line-requires t c κs =
-    let w = c .before .before .before in
-    let l = turn t w in
-    let s = first t w in
-    let a = asked t s in
-    let u = underway-here t l in (
-      omega (arith, s .pre .1 .0, l .before .loop .inv .1),
-      omega (
-        arith,
-        a .4,
-        room u (l .loop-test .taken) (reach t w u),
-        one-more (a .0) (a .1) (Y t w u) (left t l - 1) (has-it t (c .before) u) (l .before .loop .next),
-      ),
-    )
-
-add-next : (t : ℕ) → lts.Need-add-next (calls t) (search-at t) search′.Post Inv-loop μ-loop
-add-next t c = record { fits = omega (arith, put-line-requires t (c .before .before .before) (c .before .before .put-line .lifetimes) .1) }
-
-loop-less : (t : ℕ) → lts.Need-loop-less (calls t) (search-at t) search′.Post Inv-loop μ-loop
-loop-less t c = omega (arith, turn t (c .before .before .before .before .before .before) .loop-test .taken)
-
-loop-again : (t : ℕ) → lts.Need-loop-again (calls t) (search-at t) search′.Post Inv-loop μ-loop
-loop-again t c =
-    let p = c .before .before in
-    let d = p .before .before in
-    let w = d .before .before in
-    let l = turn t w in
-    let s = first t w in (
-      omega (arith, l .before .loop .inv .0),
-      omega (arith, l .before .loop .inv .1),
-      ap length (p .put-line .ensures) ∙ put-length (l .before .loop .words) (l .before .loop .next) _ ∙ l .before .loop .inv .2,
-      λ q T X h.
-          let i = l .before .loop .inv .3 q T X h in
-          let u = i .0 in
-          let yes = has-it t d u in
-          let n = one-more q T (Y t w u) (left t l - 1) yes (l .before .loop .next) in (
-            passed u (l .loop-test .taken) (reach t w u) n,
-            put-further (s .args .last) (l .before .loop .words) (l .before .loop .next) (tried q T (Y t w u) (left t l - 1)) (found q T X (left t l - 1)) (further u (l .loop-test .taken) (reach t w u)) n
-                (p .put-line .ensures
-                ∙ put-one (s .args .last) (l .before .loop .words) (l .before .loop .next) (Y t w u) (tried-itself q T (Y t w u) (left t l - 1) yes) (masked t w u (h .mask)))
-                ∙ i .1,
-          ),
-    )
-
--- ---- it has not: the search goes on from it
-
-add-search : (t : ℕ) → lts.Need-add-search (calls t) (search-at t) search′.Post Inv-loop μ-loop
-add-search t c = record { fits = omega (arith, few t (turn t (c .before .before))) }
-
-module _ (t : ℕ) (c : lts.Else2 (calls t) (search-at t) search′.Post Inv-loop μ-loop) where
-  abbrev taking : lts.After-combined (calls t) (search-at t) search′.Post Inv-loop μ-loop
-  taking = c .before .before
-
-  module _ {q : Policy} {T : ℤ} {X : List Rule} {number : ℕ} (u : UnderwayHere t (turn t taking) q T X number) where
-    tried-here : tried q T (Y t taking u) (left t (turn t taking) - 1) ≡ found q T (Y t taking u) (left t (turn t taking) - 1)
-    tried-here =
-        tried-further q T (Y t taking u) (left t (turn t taking) - 1) (sym (c .before .has-reached .ensures q T _ (tested t taking u)) ∙ c .if2 .left)
-
-    next-masked : first t taking .args .mask ≡ maskOf X
-        → Masked (first t taking .args .o) (now (first t taking .args .plan)) (m t taking) (first t taking .args .count + 1) (v t taking) (left t (turn t taking) - 1) q T (Y t taking u)
-    next-masked e = record { searching = searched t taking u; mask = masked t taking u e }
-
-search-requires : (t : ℕ) → lts.Need-search-requires (calls t) (search-at t) search′.Post Inv-loop μ-loop
-search-requires t c κs =
-    let d = c .before in
-    let w = taking t d in
-    let l = turn t w in
-    let s = first t w in
-    let a = asked t s in
-    let u = underway-here t l in (
-      omega (arith, l .loop-test .taken, l .before .loop .inv .0, s .pre .0),
-      (
-        omega (arith, s .pre .1 .0, l .before .loop .inv .1),
+  search-requires : lts.Need-search-requires (calls t) (search-at t) search′.Post Inv-loop μ-loop
+  search-requires c κs =
+      let d = c .before in
+      let w = d .before .before in
+      let l = turn w in
+      let u = asked l in (
+        omega (arith, l .loop-test .taken, l .before .loop .inv .0, first l .pre .0),
         (
-          a .0,
-          a .1,
-          Y t w u,
-          next-masked t d u (a .3 .mask),
-          omega (arith, a .4, room u (l .loop-test .taken) (reach t w u), ap (λ (F : List (List Rule)). length F) (tried-here t d u)),
+          _,
+          taken w (u .here),
+          masked w (u .here) (first l .pre .1 .2),
+          room l _ (more-room u (l .loop-test .taken) (reach w (u .here)) (tested (d .before) (u .here) ∙ d .if2 .left)),
         ),
-      ),
-    )
+      )
 
-loop-less-2 : (t : ℕ) → lts.Need-loop-less-2 (calls t) (search-at t) search′.Post Inv-loop μ-loop
-loop-less-2 t c = omega (arith, turn t (c .before .before .before .before .before .before) .loop-test .taken)
+  loop-less-2 : lts.Need-loop-less-2 (calls t) (search-at t) search′.Post Inv-loop μ-loop
+  loop-less-2 c = omega (arith, turn (c .before .before .before .before .before .before) .loop-test .taken)
 
--- what the call tells
-module _ (t : ℕ) (c : lts.After-search (calls t) (search-at t) search′.Post Inv-loop μ-loop) where
-  abbrev without : lts.Else2 (calls t) (search-at t) search′.Post Inv-loop μ-loop
-  without = c .before .before
+  loop-again-2 : lts.Need-loop-again-2 (calls t) (search-at t) search′.Post Inv-loop μ-loop
+  unfolding putSets
+  loop-again-2 c =
+      let p = c .before .before in
+      let d = p .before .before in
+      let w = d .before .before in
+      let l = turn w in
+      let here = p .search .ensures _ (taken w (asked l .here)) (masked w (asked l .here) (first l .pre .1 .2)) in (
+        omega (arith, l .before .loop .inv .0),
+        omega (arith, l .before .loop .inv .1, here .number),
+        ap length (here .words) ∙ puts-length (l .before .loop .words) (l .before .loop .after) _ ∙ l .before .loop .inv .2,
+        λ q h e.
+            let u = l .before .loop .inv .3 q h e in
+            let s = p .search .ensures _ (taken w (u .here)) (masked w (u .here) e) in
+            more-done u (l .loop-test .taken) (reach w (u .here)) (tested (d .before) (u .here) ∙ d .if2 .left) (λ i. (s .number i, s .words i)),
+      )
 
-  abbrev this : lts.In-loop (calls t) (search-at t) search′.Post Inv-loop μ-loop
-  this = turn t (taking t without)
+  same-length-2 : lts.Need-same-length-2 (calls t) (search-at t) search′.Post Inv-loop μ-loop
+  same-length-2 c = c .before .loop .inv .2
 
-  module _ {q : Policy} {T : ℤ} {X : List Rule} {number : ℕ} (u : UnderwayHere t this q T X number) (e : start t this .args .mask ≡ maskOf X) where
-    behind : c .search .result ≡ this .before .loop .next + length (tried q T (Y t (taking t without) u) (left t this - 1))
-    behind =
-        c .search .ensures .0 q T _ (next-masked t without u e)
-        ∙ ap (λ (F : List (List Rule)). this .before .loop .next + length F) (sym (tried-here t without u))
-
-    written : c .search .last .1 .1 .1 .1 .1 .1 .0 ≡ putSets (start t this .args .last) (this .before .loop .words) (this .before .loop .next) (tried q T (Y t (taking t without) u) (left t this - 1))
-    written =
-        c .search .ensures .1 q T _ (next-masked t without u e)
-        ∙ ap (putSets (start t this .args .last) (this .before .loop .words) (this .before .loop .next)) (sym (tried-here t without u))
-
-loop-again-2 : (t : ℕ) → lts.Need-loop-again-2 (calls t) (search-at t) search′.Post Inv-loop μ-loop
-unfolding putSets
-loop-again-2 t c =
-    let p = c .before .before in
-    let w = taking t (without t p) in
-    let l = this t p in
-    let s = first t w in
-    let a = asked t s in
-    let z = underway-here t l in (
-      omega (arith, l .before .loop .inv .0),
-      omega (arith, l .before .loop .inv .1, behind t p z (a .3 .mask)),
-      ap length (written t p z (a .3 .mask)) ∙ puts-length (l .before .loop .words) (l .before .loop .next) _ ∙ l .before .loop .inv .2,
-      λ q T X h.
-          let i = l .before .loop .inv .3 q T X h in
-          let u = i .0 in (
-            passed u (l .loop-test .taken) (reach t w u) (behind t p u (h .mask)),
-            put-further (s .args .last) (l .before .loop .words) (l .before .loop .next) (tried q T (Y t w u) (left t l - 1)) (found q T X (left t l - 1)) (further u (l .loop-test .taken) (reach t w u)) (behind t p u (h .mask)) (written t p u (h .mask)) ∙ i .1,
-          ),
-    )
-
-same-length-2 : (t : ℕ) → lts.Need-same-length-2 (calls t) (search-at t) search′.Post Inv-loop μ-loop
-same-length-2 t c = c .before .loop .inv .2
-
-returns-2 : (t : ℕ) → lts.Need-returns-2 (calls t) (search-at t) search′.Post Inv-loop μ-loop
-returns-2 t c =
-    let l = c .before in (
-      λ q T X h. over t l q T X h (found-none q T X (l .loop .left) (c .loop-test .left)) .0,
-      λ q T X h. over t l q T X h (found-none q T X (l .loop .left) (c .loop-test .left)) .1,
-    )
+  returns-2 : lts.Need-returns-2 (calls t) (search-at t) search′.Post Inv-loop μ-loop
+  returns-2 c p h e = let l = c .before in over l p h e (found-none p (l .loop .left) (c .loop-test .left))
 
 pub +search-spec : {M : Type 1} → statement M
 +search-spec =
@@ -379,22 +266,13 @@ pub +search-spec : {M : Type 1} → statement M
     (can-reach-requires t)
     (same-length t)
     (returns t)
-    (mul-m t)
-    (add-m t)
-    (mul-m-2 t)
-    (element-copy-out-m t)
-    (cast-m t)
-    (add-m-2 t)
-    (mul-combined t)
-    (add-combined t)
-    (mul-combined-2 t)
-    (element-copy-out-combined t)
-    (combined-requires t)
+    (next-value-requires t)
+    (next-mask-requires t)
     (sub-left t)
     (add-has-reached t)
     (has-reached-requires t)
     (put-line-requires t)
-    (add-next t)
+    (add-after t)
     (loop-less t)
     (loop-again t)
     (add-search t)

@@ -1,22 +1,22 @@
 -- `compiler::searching::can_reach`: the limit for all the rules tells.
-use Prim.Native.Nat.{_+_, _*_, _^_, _≤_}
+use Prim.Native.Nat.{_+_, _^_, _≤_}
 use mathlib.Core.Path.{_≡_, sym, subst, _∙_}
 use native.Mathlib.Omega.{arith}
 use borrow.Author.Needs.{needs}
 use denote.Ref.{now}
-use lib.IntN.{ℤ, pos}
-use lib.ListN.{getD}
+use lib.IntN.{ℤ}
 use lib.Signed.{mag}
 use mir.Syntax.{w64}
 use mir.Val.{SFits, toZ, ofZ}
 use mir.ValLaws.{toZ-ofZ}
-use Rattle.compiler.proofs.SearchingLaws.{taken-few, all-small, all-tell}
+use Rattle.compiler.specs.Planning.{limitIn, restIn}
+use Rattle.compiler.proofs.PointLaws.{taken-few, all-small, all-tell}
 use Rattle.compiler.proofs.searching.can_reach.Statement.{statement}
 use Rattle.compiler.proofs.searching.can_reach.Tie as tie
 
 -- of what is asked for
 few : (s : tie.Start) → s .args .count + s .args .left ≤ 16
-few s = taken-few (s .pre .3)
+few s = taken-few (s .pre .1)
 
 value-back : (s : tie.Start) → toZ w64 (ofZ w64 (s .args .value)) ≡ s .args .value
 value-back s = toZ-ofZ w64 (s .args .value) (s .fits .value)
@@ -48,8 +48,8 @@ element-copy-out-rest c = omega (arith, few (c .before))
 combined-requires : tie.Need-combined-requires
 combined-requires c κs =
     let s = c .before .before in
-    all-small (s .pre .3) (value-back s)
-    (toZ-ofZ w64 (getD (now (s .args .plan)) (s .args .left * 4 + 1) (pos 0)) (record { sfits = c .rest .given }))
+    all-small (s .pre .1) (value-back s)
+    (toZ-ofZ w64 (restIn (now (s .args .plan)) (s .args .left)) (record { sfits = c .rest .given }))
 
 is-reached-requires : tie.Need-is-reached-requires
 is-reached-requires c κs =
@@ -57,15 +57,15 @@ is-reached-requires c κs =
     subst (λ (z : ℤ). mag z ≤ 10 ^ 16) (sym (toZ-ofZ w64 (c .combined .result) fits ∙ c .combined .ensures)) (combined-requires (c .before) κs)
 
 returns : tie.Need-returns
-returns c q t X h =
+returns c p h =
     let d = c .before in
     let r = d .before in
     let s = r .before .before in
     let fits : SFits w64 (d .combined .result) = search needs in
     c .is-reached .ensures
     ∙ all-tell h (value-back s)
-    (toZ-ofZ w64 (getD (now (s .args .plan)) (s .args .left * 4 + 1) (pos 0)) (record { sfits = r .rest .given }))
-    (toZ-ofZ w64 (getD (now (s .args .plan)) ((s .args .count + s .args .left) * 4) (pos 0)) (record { sfits = r .before .limit .given }))
+    (toZ-ofZ w64 (restIn (now (s .args .plan)) (s .args .left)) (record { sfits = r .rest .given }))
+    (toZ-ofZ w64 (limitIn (now (s .args .plan)) (s .args .count + s .args .left)) (record { sfits = r .before .limit .given }))
     (toZ-ofZ w64 (d .combined .result) fits ∙ d .combined .ensures)
 
 pub can-reach-spec : {M : Type 1} → statement M

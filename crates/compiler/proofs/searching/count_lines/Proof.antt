@@ -1,93 +1,72 @@
 -- `compiler::searching::count_lines`: the search through the rules in falling rank, from no rule on, finds the lines.
-use mathlib.Core.List.{List, []}
+use mathlib.Core.List.{List}
 use mathlib.Core.Path.{_≡_, sym, ap, subst, _∙_}
 use borrow.Author.Needs.{needs}
+use denote.Ref.{now}
 use lib.IntN.{ℤ}
 use lib.ListN.{length}
 use mir.Syntax.{w32, w64}
 use mir.Val.{SFits, toZ, ofZ}
 use mir.ValLaws.{toZ-ofZ}
-use Rattle.peal.specs.Policies.{Rule, Policy}
-use Rattle.peal.specs.Lines.{lines}
-use Rattle.book.specs.Ranges.{PolicyInRange}
+use Rattle.peal.specs.Policies.{Rule}
 use Rattle.book.specs.Cells.{storedPolicy}
-use Rattle.book.specs.declared.cells.Policy.{Policy as StoredPolicy}
-use Rattle.book.proofs.StoredRules.{count-is, kept-count}
-use Rattle.ranking.specs.RankOrder.{inRankOrder}
-use Rattle.compiler.specs.Planning.{ThresholdFits, PlanFor}
-use Rattle.compiler.specs.Searching.{Searching, found}
-use Rattle.compiler.proofs.RankedLaws.{ranked-in-range}
-use Rattle.compiler.proofs.SearchingLaws.{beginning, found-lines}
+use Rattle.book.specs.Ranges.{PolicyKept}
+use Rattle.compiler.specs.Planning.{ThresholdFits}
+use Rattle.compiler.specs.Searching.{Searching, linesOf}
+use Rattle.compiler.proofs.BeginningLaws.{beginning, read-few, rules-kept, begun, found-lines}
 use Rattle.compiler.proofs.searching.count_lines.Statement.{statement}
 use Rattle.compiler.proofs.searching.count_lines.Tie as tie
 
-back : (s : tie.Start) → toZ w32 (ofZ w32 (s .args .t)) ≡ s .args .t
-back s = toZ-ofZ w32 (s .args .t) (s .fits .t)
+-- the threshold, as it is passed
+back : (s : tie.Start) → toZ w32 (ofZ w32 (s .args .threshold)) ≡ s .args .threshold
+back s = toZ-ofZ w32 (s .args .threshold) (s .fits .threshold)
+
+policy-at-requires : tie.Need-policy-at-requires
+policy-at-requires c κs = c .pre .0
+
+-- the policy that is read
+held : (c : tie.After-policy-at) (h : PolicyKept (now (c .before .args .cells)) (c .before .args .k)) → c .policy-at .result ≡ storedPolicy (h .policy)
+held c h = c .policy-at .ensures (h .policy) (h .held)
 
 in-rank-order-requires : tie.Need-in-rank-order-requires
-in-rank-order-requires c κs = kept-count (c .args .p) (c .pre .0)
+in-rank-order-requires c κs = let h = c .before .pre .0 in read-few h (held c h)
 
 planned-requires : tie.Need-planned-requires
 planned-requires c κs =
-    let s = c .before in
-    let k = s .pre .0 in (
-      record { policy = inRankOrder (k .0); held = c .in-rank-order .ensures .1 (k .0) (k .1); range = ranked-in-range (k .0) (k .2) },
-      subst ThresholdFits (sym (back s)) (s .pre .1),
-    )
+    let r = c .before in
+    let s = r .before in
+    (rules-kept (s .pre .0) (held r (s .pre .0)) (c .in-rank-order .ensures), subst ThresholdFits (sym (back s)) (s .pre .1))
 
-start-requires : tie.Need-start-requires
-start-requires c κs = tt
+initial-requires : tie.Need-initial-requires
+initial-requires c κs = tt
 
 -- the search begins
-module _ (c : tie.After-start) where
-  abbrev s : tie.Start
-  s = c .before .before .before
-
-  abbrev T : ℤ
-  T = toZ w32 (ofZ w32 (s .args .t))
-
-  abbrev p : StoredPolicy
-  p = c .before .before .in-rank-order .result
-
-  abbrev plan : List ℤ
-  plan = c .before .planned .result
-
-  abbrev value : ℤ
-  value = toZ w64 (ofZ w64 (c .start .result))
-
-  module _ (q : Policy) (e : s .args .p ≡ storedPolicy q) (r : PolicyInRange q) where
-    abbrev ranked : Policy
-    ranked = inRankOrder q
-
-    held : p ≡ storedPolicy ranked
-    held = c .before .before .in-rank-order .ensures .1 q e
-
-    plan-for : PlanFor (p .operator) plan ranked T
-    plan-for = c .before .planned .ensures ranked held (ranked-in-range q r)
-
-    begun : Searching (p .operator) plan 0 value (p .count) ranked T []
-    begun =
-        let fits : SFits w64 (c .start .result) = search needs in
-        beginning plan-for (count-is p ranked held) (toZ-ofZ w64 (c .start .result) fits ∙ c .start .ensures) .searching
-
-    -- how many are found, as document 01 has it
-    so-many : length (found ranked T [] (p .count)) ≡ length (lines (q .operator) (s .args .t) (q .rules))
-    so-many =
-        ap (λ (F : List (List Rule)). length F)
-        (found-lines q r plan-for (count-is p ranked held) ∙ ap (λ (t : ℤ). lines (q .operator) t (q .rules)) (back s))
+begins : (c : tie.After-initial) → let r = c .before .before .before in let s = r .before .before in
+    (h : PolicyKept (now (s .args .cells)) (s .args .k))
+    → Searching (r .in-rank-order .result .operator) (c .before .before .planned .result) 0 (toZ w64 (ofZ w64 (c .initial .result))) (r .in-rank-order .result .count)
+    (beginning (h .policy) (toZ w32 (ofZ w32 (s .args .threshold))))
+begins c h =
+    let r = c .before .before .before in
+    let fits : SFits w64 (c .initial .result) = search needs in
+    begun h (held (r .before) h) (r .in-rank-order .ensures) (c .before .before .planned .ensures) (toZ-ofZ w64 (c .initial .result) fits ∙ c .initial .ensures)
 
 count-found-requires : tie.Need-count-found-requires
-count-found-requires c κs = let b = c .before in let k = s b .pre .0 in (inRankOrder (k .0), T b, [], begun b (k .0) (k .1) (k .2))
+count-found-requires c κs = (_, begins c (c .before .before .before .before .before .pre .0))
 
 returns : tie.Need-returns
-returns c q e r = let b = c .before .before in c .count-found .ensures (inRankOrder q) (T b) [] (begun b q e r) ∙ so-many b q e r
+returns c h =
+    let r = c .before .before .before .before in
+    let s = r .before .before in
+    c .count-found .ensures _ (begins (c .before) h)
+    ∙ ap (λ (F : List (List Rule)). length F) (found-lines h (held (r .before) h) (r .in-rank-order .ensures) _ ∙ ap (λ (t : ℤ). linesOf t (h .policy)) (back s))
 
 pub count-lines-spec : {M : Type 1} → statement M
 count-lines-spec =
     tie.close
     (tie.spec
+    policy-at-requires
     in-rank-order-requires
     planned-requires
-    start-requires
+    initial-requires
     count-found-requires
     returns)

@@ -23,7 +23,7 @@ value-back s = toZ-ofZ w64 (s .args .value) (s .fits .value)
 hundred : (s : tie.Start) → SFits w64 (s .args .value *ℤ pos 100)
 hundred s = hundredfold-fits (s .args .value) (s .pre)
 
-matched : (s : tie.Start) (o : Operator) → s .args .o ≡ o → reachedOf o (s .args .limit) (s .args .value) ≡ reachedOf (s .args .o) (s .args .limit) (s .args .value)
+matched : (s : tie.Start) (o : Operator) → s .args .operator ≡ o → reachedOf o (s .args .limit) (s .args .value) ≡ reachedOf (s .args .operator) (s .args .limit) (s .args .value)
 matched s o e = ap (λ (x : Operator). reachedOf x (s .args .limit) (s .args .value)) (sym e)
 
 enum-told : tie.Need-enum-told

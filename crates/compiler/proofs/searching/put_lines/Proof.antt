@@ -1,7 +1,7 @@
 -- `compiler::searching::put_lines`: the search through the rules in falling rank, from no rule on, finds the lines.
-use Prim.Native.Nat.{_+_, _≤_}
-use mathlib.Core.List.{List, []}
-use mathlib.Core.Path.{_≡_, sym, ap, subst, _∙_}
+use Prim.Native.Nat.{_+_, _-_}
+use mathlib.Core.List.{List, map}
+use mathlib.Core.Path.{_≡_, refl, sym, ap, subst, _∙_}
 use native.Mathlib.Omega.{arith}
 use borrow.Author.Needs.{needs}
 use denote.Ref.{now}
@@ -10,120 +10,112 @@ use lib.ListN.{length}
 use mir.Syntax.{w32, w64}
 use mir.Val.{SFits, toZ, ofZ}
 use mir.ValLaws.{toZ-ofZ}
-use Rattle.peal.specs.Policies.{Rule, Policy}
-use Rattle.peal.specs.Lines.{lines}
-use Rattle.book.specs.Ranges.{PolicyInRange}
+use Rattle.layout.specs.Nodes.{lineRecords}
+use Rattle.layout.specs.Writing.{putRecords}
+use Rattle.layout.proofs.WritingLaws.{puts-length}
+use Rattle.peal.specs.Policies.{Rule, maskOf}
 use Rattle.book.specs.Cells.{storedPolicy}
-use Rattle.book.specs.declared.cells.Policy.{Policy as StoredPolicy}
-use Rattle.book.proofs.StoredRules.{count-is, kept-count}
-use Rattle.compiler.specs.Putting.{putSets}
-use Rattle.ranking.specs.RankOrder.{inRankOrder}
-use Rattle.compiler.specs.Planning.{ThresholdFits, PlanFor}
-use Rattle.compiler.specs.Searching.{Masked, found}
-use Rattle.compiler.proofs.PuttingLaws.{puts-length}
-use Rattle.compiler.proofs.RankedLaws.{ranked-in-range}
-use Rattle.compiler.proofs.SearchingLaws.{beginning, found-few, found-lines}
+use Rattle.book.specs.Ranges.{PolicyKept}
+use Rattle.compiler.specs.Planning.{ThresholdFits}
+use Rattle.compiler.specs.Searching.{Point, found, Searching, putSets, linesOf, LinesKept}
+use Rattle.compiler.proofs.RoomLaws.{room-part}
+use Rattle.compiler.proofs.BeginningLaws.{beginning, no-mask, read-few, rules-kept, begun, found-lines}
+use Rattle.compiler.proofs.SearchTurns.{put-all}
 use Rattle.compiler.proofs.searching.put_lines.Statement.{statement}
 use Rattle.compiler.proofs.searching.put_lines.Tie as tie
 
-back : (s : tie.Start) → toZ w32 (ofZ w32 (s .args .t)) ≡ s .args .t
-back s = toZ-ofZ w32 (s .args .t) (s .fits .t)
+-- the threshold, as it is passed
+back : (s : tie.Start) → toZ w32 (ofZ w32 (s .args .threshold)) ≡ s .args .threshold
+back s = toZ-ofZ w32 (s .args .threshold) (s .fits .threshold)
+
+policy-at-requires : tie.Need-policy-at-requires
+policy-at-requires c κs = c .before .pre .0 .kept
+
+-- the policy that is read
+held : (c : tie.After-policy-at) (h : PolicyKept (now (c .before .before .args .cells)) (c .before .before .args .k)) → c .policy-at .result ≡ storedPolicy (h .policy)
+held c h = c .policy-at .ensures (h .policy) (h .held)
 
 in-rank-order-requires : tie.Need-in-rank-order-requires
-in-rank-order-requires c κs = let s = c .before in kept-count (s .args .p) (s .pre .2)
+in-rank-order-requires c κs = let h = c .before .before .pre .0 .kept in read-few h (held c h)
 
 planned-requires : tie.Need-planned-requires
 planned-requires c κs =
-    let s = c .before .before in
-    let k = s .pre .2 in (
-      record { policy = inRankOrder (k .0); held = c .in-rank-order .ensures .1 (k .0) (k .1); range = ranked-in-range (k .0) (k .2) },
-      subst ThresholdFits (sym (back s)) (s .pre .3),
-    )
+    let r = c .before in
+    let k = r .before .before .pre .0 in
+    (rules-kept (k .kept) (held r (k .kept)) (c .in-rank-order .ensures), subst ThresholdFits (sym (back (r .before .before))) (k .fits))
 
-start-requires : tie.Need-start-requires
-start-requires c κs = tt
+initial-requires : tie.Need-initial-requires
+initial-requires c κs = tt
 
--- the search begins
-module _ (c : tie.After-start) where
-  abbrev s : tie.Start
-  s = c .before .before .before .before
+-- the search begins, and finds the lines
+module _ (c : tie.After-initial) where
+  abbrev ranked : tie.After-in-rank-order
+  ranked = c .before .before .before
 
-  abbrev T : ℤ
-  T = toZ w32 (ofZ w32 (s .args .t))
+  abbrev start : tie.Start
+  start = ranked .before .before .before
 
-  abbrev p : StoredPolicy
-  p = c .before .before .in-rank-order .result
+  module _ (h : LinesKept (now (start .args .cells)) (start .args .k) (start .args .threshold) (start .args .count)) where
+    abbrev p : Point
+    p = beginning (h .kept .policy) (toZ w32 (ofZ w32 (start .args .threshold)))
 
-  abbrev plan : List ℤ
-  plan = c .before .planned .result
+    begins : Searching (ranked .in-rank-order .result .operator) (c .before .before .planned .result) 0 (toZ w64 (ofZ w64 (c .initial .result))) (ranked .in-rank-order .result .count) p
+    begins =
+        let fits : SFits w64 (c .initial .result) = search needs in
+        begun (h .kept) (held (ranked .before) (h .kept)) (ranked .in-rank-order .ensures) (c .before .before .planned .ensures) (toZ-ofZ w64 (c .initial .result) fits ∙ c .initial .ensures)
 
-  abbrev value : ℤ
-  value = toZ w64 (ofZ w64 (c .start .result))
+    finds : found p (ranked .in-rank-order .result .count) ≡ linesOf (start .args .threshold) (h .kept .policy)
+    finds = found-lines (h .kept) (held (ranked .before) (h .kept)) (ranked .in-rank-order .ensures) _ ∙ ap (λ (t : ℤ). linesOf t (h .kept .policy)) (back start)
 
-  module _ (q : Policy) (e : s .args .p ≡ storedPolicy q) (r : PolicyInRange q) where
-    abbrev ranked : Policy
-    ranked = inRankOrder q
+    so-many : length (found p (ranked .in-rank-order .result .count)) ≡ start .args .count
+    so-many = ap (λ (F : List (List Rule)). length F) finds ∙ sym (h .counted)
 
-    held : p ≡ storedPolicy ranked
-    held = c .before .before .in-rank-order .ensures .1 q e
+add-search : tie.Need-add-search
+add-search c = let s = start (c .before) in omega (arith, s .pre .1 .numbers)
 
-    plan-for : PlanFor (p .operator) plan ranked T
-    plan-for = c .before .planned .ensures ranked held (ranked-in-range q r)
-
-    begun : Masked (p .operator) plan 0 0 value (p .count) ranked T []
-    begun =
-        let fits : SFits w64 (c .start .result) = search needs in
-        beginning plan-for (count-is p ranked held) (toZ-ofZ w64 (c .start .result) fits ∙ c .start .ensures)
-
-    few : length (found ranked T [] (p .count)) ≤ 65536
-    few = found-few (begun .searching)
-
-    -- what is found, as document 01 has it
-    are-lines : found ranked T [] (p .count) ≡ lines (q .operator) (s .args .t) (q .rules)
-    are-lines = found-lines q r plan-for (count-is p ranked held) ∙ ap (λ (t : ℤ). lines (q .operator) t (q .rules)) (back s)
+sub-search : tie.Need-sub-search
+sub-search c = let s = start (c .before) in omega (arith, s .pre .1 .begins)
 
 search-requires : tie.Need-search-requires
 search-requires c κs =
-    let n = c .before .before in
-    let b = s n in
-    let k = b .pre .2 in
-    (b .pre .0, (inRankOrder (k .0), T n, [], begun n (k .0) (k .1) (k .2), omega (arith, b .pre .1, few n (k .0) (k .1) (k .2))))
+    let b = c .before in
+    let s = start b in
+    let k = s .pre .0 in
+    let r = s .pre .1 in
+    (p b k, begins b k, no-mask, room-part r (s .args .at) _ (r .begins) (omega (arith, so-many b k)) refl)
 
--- the words and the record behind
-module _ (c : tie.After-search) where
-  abbrev begin : tie.After-start
-  begin = c .before .before .before
-
-  module _ (q : Policy) (e : s begin .args .p ≡ storedPolicy q) (r : PolicyInRange q) where
-    number : c .search .result ≡ s begin .args .at + length (lines (q .operator) (s begin .args .t) (q .rules))
-    number =
-        c .search .ensures .0 (inRankOrder q) (T begin) [] (begun begin q e r)
-        ∙ ap (λ (F : List (List Rule)). s begin .args .at + length F) (are-lines begin q e r)
-
-    words : c .search .last .1 .1 .1 .1 .1 .1 .0
-        ≡ putSets (s begin .args .last) (now (s begin .args .words)) (s begin .args .at) (lines (q .operator) (s begin .args .t) (q .rules))
-    words =
-        c .search .ensures .1 (inRankOrder q) (T begin) [] (begun begin q e r)
-        ∙ ap (putSets (s begin .args .last) (now (s begin .args .words)) (s begin .args .at)) (are-lines begin q e r)
+-- what the search leaves
+left : (c : tie.After-search) → let b = c .before .before in let s = start b in
+    (h : LinesKept (now (s .args .cells)) (s .args .k) (s .args .threshold) (s .args .count))
+    → c .search .last .1 .1 .1 .1 .1 .1 .0 ≡ putSets (s .args .at + s .args .count - 1) (now (s .args .words)) (s .args .at) (found (p b h) (ranked b .in-rank-order .result .count))
+left c h = let b = c .before .before in c .search .ensures (p b h) (begins b h) no-mask .words
 
 same-length : tie.Need-same-length
 unfolding putSets
 same-length c =
-    let w = c .before .before in
-    let b = s (begin w) in
-    let k = b .pre .2 in
-    ap length (words w (k .0) (k .1) (k .2)) ∙ puts-length (now (b .args .words)) (b .args .at) _
+    let e = c .before .before in
+    let s = start (e .before .before) in
+    ap length (left e (s .pre .0)) ∙ puts-length (now (s .args .words)) (s .args .at) _
 
 returns : tie.Need-returns
-returns c = (number (c .before .before), words (c .before .before))
+returns c h =
+    let e = c .before .before in
+    let b = e .before .before in
+    let s = start b in
+    let last : s .args .at + length (found (p b h) (ranked b .in-rank-order .result .count)) ≡ s .args .at + s .args .count - 1 + 1 = omega (arith, s .pre .1 .begins, so-many b h) in
+    left e h ∙ put-all (s .args .at + s .args .count - 1) (s .args .at) (now (s .args .words)) _ last
+    ∙ ap (λ (F : List (List Rule)). putRecords (now (s .args .words)) (s .args .at) (lineRecords (s .args .at) (map maskOf F))) (finds b h)
 
 pub put-lines-spec : {M : Type 1} → statement M
 put-lines-spec =
     tie.close
     (tie.spec
+    policy-at-requires
     in-rank-order-requires
     planned-requires
-    start-requires
+    initial-requires
+    add-search
+    sub-search
     search-requires
     same-length
     returns)

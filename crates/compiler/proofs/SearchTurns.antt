@@ -1,0 +1,124 @@
+-- A turn of the search, whatever is done with the sets that are found.
+use Prim.Native.Nat.{ℕ, _+_, _-_, _≤_, _<_}
+use mathlib.Core.Bool.{true, false}
+use mathlib.Core.List.{List, [], _∷_, _++_, map, map-append}
+use mathlib.Core.Path.{_≡_, refl, sym, ap, _∙_}
+use native.Mathlib.Nat.{add-zero}
+use native.Mathlib.Omega.{arith}
+use lib.IntN.{ℤ}
+use lib.ListN.{length, length-append, length-map}
+use Rattle.layout.specs.Nodes.{lineRecords}
+use Rattle.layout.specs.Writing.{putRecord, putRecords, lineRecord, linesUpTo}
+use Rattle.layout.proofs.WritingLaws.{put-lines-append, lines-up-to}
+use Rattle.peal.specs.Policies.{Rule, maskOf}
+use Rattle.peal.specs.declared.Operator.{Operator}
+use Rattle.compiler.specs.Searching.{Point, having, allAt, taking, found, Searching, putSets}
+use Rattle.compiler.proofs.PointLaws.{left-out}
+use Rattle.compiler.proofs.FoundLaws.{tried, tried-itself, tried-further, found-further}
+
+-- what is done with sets, one after the other, and the number that comes next
+pub record Doing (A : Type 0) : Type 0 where
+  pub run : A → List (List Rule) → A
+  pub number : A → ℕ
+  pub none : (a : A) → run a [] ≡ a
+  pub append : (a : A) (F G : List (List Rule)) → run a (F ++ G) ≡ run (run a F) G
+  pub counts : (a : A) (F : List (List Rule)) → number (run a F) ≡ number a + length F
+
+-- with `left` rules still to come, and a done so far: what is found from here on makes of it what all that is found makes of the beginning
+pub record Underway {A : Type 0} (d : Doing A) (o : Operator) (plan : List ℤ) (count : ℕ) (value : ℤ) (p : Point) (begun : A) (rank : ℕ) (a : A) (left : ℕ) : Type 0 where
+  pub here : Searching o plan count value left p
+  pub leads : d .run a (found p left) ≡ d .run begun (found p rank)
+
+module _ {A : Type 0} {d : Doing A} {o : Operator} {plan : List ℤ} {count : ℕ} {value : ℤ} {p : Point} {begun : A} {rank : ℕ} {a : A} {left : ℕ}
+    (u : Underway d o plan count value p begun rank a left) where
+  -- nothing more is found
+  pub ended : found p left ≡ [] → a ≡ d .run begun (found p rank)
+  ended e = sym (d .none a) ∙ ap (d .run a) (sym e) ∙ u .leads
+
+  module _ (some : 0 < left) (reach : having p (allAt p left) ≡ true) where
+    abbrev next : Point
+    next = taking p left
+
+    further : found p left ≡ tried next (left - 1) ++ found p (left - 1)
+    further = found-further some (u .here) reach
+
+    -- the sets found with the rule have numbers among those of all
+    room : d .number a + length (tried next (left - 1)) ≤ d .number begun + length (found p rank)
+    room =
+        omega (
+          arith,
+          sym (d .counts a (found p left)) ∙ ap (d .number) (u .leads) ∙ d .counts begun (found p rank),
+          ap (λ (F : List (List Rule)). length F) further,
+          length-append (tried next (left - 1)) (found p (left - 1)),
+        )
+
+    -- they are done, and the rule is left out
+    passed : {b : A} → b ≡ d .run a (tried next (left - 1)) → Underway d o plan count value p begun rank b (left - 1)
+    passed {b} e =
+        record {
+          here = left-out some (u .here);
+          leads =
+              ap (λ (x : A). d .run x (found p (left - 1))) e
+              ∙ sym (ap (d .run a) further ∙ d .append a (tried next (left - 1)) (found p (left - 1))) ∙ u .leads;
+        }
+
+    -- the rules tried have the property: they are the one set found
+    module _ (yes : having next (next .taken) ≡ true) where
+      pub one-room : d .number a + 1 ≤ d .number begun + length (found p rank)
+      one-room = omega (arith, room, ap (λ (F : List (List Rule)). length F) (tried-itself next (left - 1) yes))
+
+      pub one-done : {b : A} → b ≡ d .run a (next .taken ∷ []) → Underway d o plan count value p begun rank b (left - 1)
+      one-done e = passed (e ∙ ap (d .run a) (sym (tried-itself next (left - 1) yes)))
+
+    -- they have not: what is found beyond them
+    module _ (no : having next (next .taken) ≡ false) where
+      pub more-room : d .number a + length (found next (left - 1)) ≤ d .number begun + length (found p rank)
+      more-room = omega (arith, room, ap (λ (F : List (List Rule)). length F) (tried-further next (left - 1) no))
+
+      pub more-done : {b : A} → b ≡ d .run a (found next (left - 1)) → Underway d o plan count value p begun rank b (left - 1)
+      more-done e = passed (e ∙ ap (d .run a) (sym (tried-further next (left - 1) no)))
+
+-- ---- they are counted
+
+pub counted-append : (n : ℕ) (F G : List (List Rule)) → n + length (F ++ G) ≡ n + length F + length G
+counted-append n F G = omega (arith, length-append F G)
+
+abbrev pub counting : Doing ℕ
+counting = record { run = λ n F. n + length F; number = λ n. n; none = add-zero; append = counted-append; counts = λ n F. refl }
+
+-- ---- they are put as lines
+
+pub put-append : (last n : ℕ) (words : List ℕ) (F G : List (List Rule)) → putSets last words n (F ++ G) ≡ putSets last (putSets last words n F) (n + length F) G
+unfolding putSets
+put-append last n words F G =
+    ap (λ (l : List ℕ). putRecords words n (linesUpTo last n l)) (map-append maskOf F G)
+    ∙ put-lines-append last n (map maskOf F) (map maskOf G) words
+    ∙ ap (λ (k : ℕ). putRecords (putRecords words n (linesUpTo last n (map maskOf F))) (n + k) (linesUpTo last (n + k) (map maskOf G))) (length-map F maskOf)
+
+pub put-none : (last n : ℕ) (words : List ℕ) → putSets last words n [] ≡ words
+unfolding putSets linesUpTo putRecords
+put-none last n words = refl
+
+-- the record that comes next, and the words
+abbrev pub Put : Type 0
+Put = ℕ × List ℕ
+
+abbrev pub putting : ℕ → Doing Put
+putting last =
+    record {
+      run = λ a F. (a .0 + length F, putSets last (a .1) (a .0) F);
+      number = λ a. a .0;
+      none = λ a i. (add-zero (a .0) i, put-none last (a .0) (a .1) i);
+      append = λ a F G i. (counted-append (a .0) F G i, put-append last (a .0) (a .1) F G i);
+      counts = λ a F. refl;
+    }
+
+-- the line of one set
+pub put-one : (last n : ℕ) (words : List ℕ) (X : List Rule) {mask : ℕ} → mask ≡ maskOf X → putRecord words n (lineRecord last n mask) ≡ putSets last words n (X ∷ [])
+unfolding putSets linesUpTo putRecords
+put-one last n words X e = ap (λ (m : ℕ). putRecord words n (lineRecord last n m)) e
+
+-- all sets, where the last of them is record `last`
+pub put-all : (last n : ℕ) (words : List ℕ) (F : List (List Rule)) → n + length F ≡ last + 1 → putSets last words n F ≡ putRecords words n (lineRecords n (map maskOf F))
+unfolding putSets
+put-all last n words F e = ap (putRecords words n) (lines-up-to last n (map maskOf F) (ap (λ (k : ℕ). n + k) (length-map F maskOf) ∙ e))

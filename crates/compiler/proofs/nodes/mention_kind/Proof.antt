@@ -1,0 +1,34 @@
+-- `compiler::nodes::mention_kind`: the two flags.
+use mathlib.Core.Path.{ap₂, _∙_}
+use borrow.Author.Needs.{needs}
+use lib.IntN.{ℤ}
+use mir.Syntax.{w32}
+use mir.ValLaws.{toZ-ofZ}
+use Rattle.layout.specs.Records.{policyKind}
+use Rattle.peal.specs.Score.{scaled, meets}
+use Rattle.compiler.proofs.nodes.mention_kind.Statement.{statement}
+use Rattle.compiler.proofs.nodes.mention_kind.Tie as tie
+
+is-met-requires : tie.Need-is-met-requires
+is-met-requires c κs = search needs
+
+is-turned-requires : tie.Need-is-turned-requires
+is-turned-requires c κs = search needs
+
+policy-kind-requires : tie.Need-policy-kind-requires
+policy-kind-requires c κs = search needs
+
+returns : tie.Need-returns
+returns c =
+    let t = c .before in
+    let m = t .before in
+    let s = m .before in
+    let a = s .args in
+    c .policy-kind .ensures
+    ∙ ap₂ policyKind
+    (m .is-met .ensures ∙ ap₂ (λ (x y : ℤ). meets (a .sense) x (scaled y)) (toZ-ofZ w32 (a .threshold) (s .fits .threshold)) (toZ-ofZ w32 (a .default) (s .fits .default)))
+    (t .is-turned .ensures)
+
+pub mention-kind-spec : {M : Type 1} → statement M
+mention-kind-spec =
+    tie.close (tie.spec is-met-requires is-turned-requires policy-kind-requires returns)

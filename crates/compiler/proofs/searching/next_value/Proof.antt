@@ -1,0 +1,38 @@
+-- `compiler::searching::next_value`: the score that the plan has of the next rule.
+use mathlib.Core.Path.{ap₂, _∙_}
+use borrow.Author.Needs.{needs}
+use denote.Ref.{now}
+use mir.Syntax.{w64}
+use mir.Val.{SFits}
+use mir.ValLaws.{toZ-ofZ}
+use Rattle.peal.specs.Combining.{combinedOf}
+use Rattle.compiler.specs.Planning.{scoreIn}
+use Rattle.compiler.proofs.searching.next_value.Statement.{statement}
+use Rattle.compiler.proofs.searching.next_value.Tie as tie
+
+mul-combined : tie.Need-mul-combined
+mul-combined c = search needs
+
+add-combined : tie.Need-add-combined
+add-combined c = search needs
+
+mul-combined-2 : tie.Need-mul-combined-2
+mul-combined-2 c = search needs
+
+element-copy-out-combined : tie.Need-element-copy-out-combined
+element-copy-out-combined c = search needs
+
+combined-requires : tie.Need-combined-requires
+combined-requires c κs = search needs
+
+returns : tie.Need-returns
+returns c =
+    let s = c .before .before in
+    let fits : SFits w64 (c .combined .result) = search needs in
+    toZ-ofZ w64 (c .combined .result) fits ∙ c .combined .ensures
+    ∙ ap₂ (combinedOf (s .args .operator)) (toZ-ofZ w64 (s .args .value) (s .fits .value))
+    (toZ-ofZ w64 (scoreIn (now (s .args .plan)) (s .args .left)) (record { sfits = c .before .combined-arg .given }))
+
+pub next-value-spec : {M : Type 1} → statement M
+next-value-spec =
+    tie.close (tie.spec mul-combined add-combined mul-combined-2 element-copy-out-combined combined-requires returns)
