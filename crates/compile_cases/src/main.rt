@@ -112,7 +112,7 @@ fn print_compiled(answer: compiler::Compiled) {
             print(b"records ");
             print_number(records as u64);
         }
-        compiler::Compiled::Declined(reason) => print_declined(reason),
+        compiler::Compiled::Declined(why) => print_declined(why),
         compiler::Compiled::NoRoom => print(b"refused 8 0"),
     }
 }
@@ -129,7 +129,7 @@ fn compiled_into(bytes: &[u8], condition: u32, words: &mut [u32]) -> Outcome
     let answer = compiler::compile(bytes, condition, words);
     let end = match answer {
         compiler::Compiled::Records(records) => records * 4,
-        compiler::Compiled::Declined(reason) => 0,
+        compiler::Compiled::Declined(why) => 0,
         compiler::Compiled::NoRoom => 0,
     };
     Outcome {
@@ -187,7 +187,7 @@ fn score_number(d: score::Decision) -> usize {
     match d {
         score::Decision::Yes => 1,
         score::Decision::No => 0,
-        score::Decision::Declined(reason) => 3,
+        score::Decision::Declined(why) => 3,
     }
 }
 

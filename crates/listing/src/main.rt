@@ -50,8 +50,8 @@ fn list_condition(bytes: &[u8], condition: u32, words: &mut [u32]) {
     let answer = compiler::compile(bytes, condition, words);
     match answer {
         compiler::Compiled::Records(records) => print_listing(condition, records, words),
-        compiler::Compiled::Declined(reason) => {
-            print_declined(reason);
+        compiler::Compiled::Declined(why) => {
+            print_declined(why);
             print_end();
         }
         compiler::Compiled::NoRoom => print(b"refused 8 0\n"),
