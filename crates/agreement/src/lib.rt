@@ -38,7 +38,7 @@ pub fn compile_and_read(bytes: &[u8], condition: u32, set: u16, words: &mut [u32
             let by_listing = read_compiled(words, records, set);
             Reading::Decided(by_listing)
         }
-        compiler::Compiled::Declined(declined) => Reading::Declined(declined),
+        compiler::Compiled::Declined(why) => Reading::Declined(why),
         compiler::Compiled::NoRoom => Reading::NoRoom,
     }
 }
@@ -73,7 +73,7 @@ pub fn ask_both(bytes: &[u8], condition: u32, set: u16, words: &mut [u32]) -> Bo
                 logger: by_scores,
             }
         }
-        compiler::Compiled::Declined(declined) => Both::Declined(declined),
+        compiler::Compiled::Declined(why) => Both::Declined(why),
         compiler::Compiled::NoRoom => Both::NoRoom,
     }
 }

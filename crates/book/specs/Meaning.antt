@@ -18,7 +18,7 @@ reasonNumber TooMany = 4
 reasonNumber OutOfRange = 5
 reasonNumber Repeated = 6
 
--- the number of a reason to decline: the book's refusal, or 7
+-- the number of what declines: that of the book's refusal, or 7
 abbrev pub declinedNumber : Declined → ℕ
 declinedNumber (Declined.Refused r) = reasonNumber (r .reason)
 declinedNumber Declined.NoCondition = 7

@@ -48,6 +48,6 @@ pub fn compile(bytes: &[u8], condition: u32, words: &mut [u32]) -> Compiled
     let asked = book::ask(bytes, condition, &mut cells);
     match asked {
         book::Asked::Condition(n) => compile_condition(&cells, n, words),
-        book::Asked::Declined(declined) => Compiled::Declined(declined),
+        book::Asked::Declined(why) => Compiled::Declined(why),
     }
 }

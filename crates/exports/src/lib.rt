@@ -71,11 +71,11 @@ fn refused_book(refusal: book::Refusal) -> u64
     refused(book::reason_number(reason), line)
 }
 
-fn declined(reason: book::Declined) -> u64
-    requires { ⌜ declinedValue reason < valueEnd ⌝ }
-    ensures { λ r. ⌜ r ≡ asOne (declinedNumber reason) (declinedValue reason) ⌝ }
+fn declined(why: book::Declined) -> u64
+    requires { ⌜ declinedValue why < valueEnd ⌝ }
+    ensures { λ r. ⌜ r ≡ asOne (declinedNumber why) (declinedValue why) ⌝ }
 {
-    match reason {
+    match why {
         book::Declined::Refused(refusal) => refused_book(refusal),
         book::Declined::NoCondition => refused(book::NO_CONDITION, 0),
     }
@@ -98,8 +98,8 @@ fn refused_listing(fault: layout::Fault) -> u64
 pub extern "C" fn cerahupo_check(bytes: &[u8]) -> u64
     ensures { λ r. ⌜ r ≡ packed countsValue (checked (now (bytes .entry))) ⌝ }
 {
-    let c = book::check(bytes);
-    match c {
+    let answer = book::check(bytes);
+    match answer {
         book::Checked::Accepted {
             policies,
             conditions,
@@ -115,11 +115,11 @@ pub extern "C" fn cerahupo_check(bytes: &[u8]) -> u64
 pub extern "C" fn cerahupo_decide(bytes: &[u8], condition: u32, set: u16) -> u64
     ensures { λ r. ⌜ r ≡ packed oneIf (scoredAnswer (now (bytes .entry)) condition set) ⌝ }
 {
-    let d = score::decide(bytes, condition, set);
-    match d {
+    let answer = score::decide(bytes, condition, set);
+    match answer {
         score::Decision::Yes => accepted(1),
         score::Decision::No => accepted(0),
-        score::Decision::Declined(reason) => declined(reason),
+        score::Decision::Declined(why) => declined(why),
     }
 }
 
@@ -127,14 +127,14 @@ pub extern "C" fn cerahupo_decide(bytes: &[u8], condition: u32, set: u16) -> u64
 pub extern "C" fn cerahupo_score(bytes: &[u8], condition: u32, set: u16, remainder: &mut u64) -> u64
     ensures { λ r. ⌜ ScoreTold (now (bytes .entry)) condition set (now (remainder .entry)) r (now (remainder .exit)) ⌝ }
 {
-    let evaluation = score::evaluate(bytes, condition, set);
-    match evaluation {
+    let answer = score::evaluate(bytes, condition, set);
+    match answer {
         score::Evaluation::Score(exact) => {
             let value = (exact.hundredths + BELOW_ZERO) as u64;
             *remainder = exact.remainder;
             accepted(value)
         }
-        score::Evaluation::Declined(reason) => declined(reason),
+        score::Evaluation::Declined(why) => declined(why),
     }
 }
 
@@ -142,13 +142,13 @@ pub extern "C" fn cerahupo_score(bytes: &[u8], condition: u32, set: u16, remaind
 pub extern "C" fn cerahupo_compile(bytes: &[u8], condition: u32, words: &mut [u32]) -> u64
     ensures { λ r. ⌜ CompilingTold (now (bytes .entry)) condition (now (words .entry)) r (now (words .exit)) ⌝ }
 {
-    let c = compiler::compile(bytes, condition, words);
-    match c {
+    let answer = compiler::compile(bytes, condition, words);
+    match answer {
         compiler::Compiled::Records(n) => {
             let records = n as u64;
             accepted(records)
         }
-        compiler::Compiled::Declined(reason) => declined(reason),
+        compiler::Compiled::Declined(why) => declined(why),
         compiler::Compiled::NoRoom => refused(NO_ROOM, 0),
     }
 }
@@ -157,8 +157,8 @@ pub extern "C" fn cerahupo_compile(bytes: &[u8], condition: u32, words: &mut [u3
 pub extern "C" fn cerahupo_read(words: &[u32], set: u16) -> u64
     ensures { λ r. ⌜ r ≡ packed oneIf (rodAnswer (now (words .entry)) set) ⌝ }
 {
-    let d = rod::decide(words, set);
-    match d {
+    let answer = rod::decide(words, set);
+    match answer {
         rod::Decision::Yes => accepted(1),
         rod::Decision::No => accepted(0),
         rod::Decision::Declined(fault) => refused_listing(fault),
@@ -170,8 +170,8 @@ pub extern "C" fn cerahupo_traverse(words: &[u32], sets: &[u16], answers: &mut [
     ensures { λ r. ⌜ TraverseTold (now (words .entry)) (now (sets .entry)) (now (answers .entry))
         r (now (answers .exit)) ⌝ }
 {
-    let t = rod::traverse(words, sets, answers);
-    match t {
+    let answer = rod::traverse(words, sets, answers);
+    match answer {
         rod::Traversed::Answered(n) => {
             let value = n as u64 % VALUE_END;
             accepted(value)
@@ -202,8 +202,8 @@ fn accepted_both(yes: u16, no: u16, judged: u32) -> u64
 pub extern "C" fn cerahupo_choice(words: &[u32]) -> u64
     ensures { λ r. ⌜ r ≡ packed chosenValue (chosen (now (words .entry))) ⌝ }
 {
-    let c = checks::choice(words);
-    match c {
+    let answer = checks::choice(words);
+    match answer {
         checks::ChoiceAnswer::Always(judged) => accepted_choice(0, judged),
         checks::ChoiceAnswer::Never(judged) => accepted_choice(1, judged),
         checks::ChoiceAnswer::Both(yes, no, judged) => accepted_both(yes, no, judged),
@@ -223,8 +223,8 @@ fn accepted_difference(which: u64, set: u16) -> u64
 pub extern "C" fn cerahupo_compare(one: &[u32], two: &[u32]) -> u64
     ensures { λ r. ⌜ r ≡ packedComparison (comparison (now (one .entry)) (now (two .entry))) ⌝ }
 {
-    let c = checks::compare(one, two);
-    match c {
+    let answer = checks::compare(one, two);
+    match answer {
         checks::ComparisonAnswer::Alike => accepted(0),
         checks::ComparisonAnswer::FirstYes(set) => accepted_difference(3, set),
         checks::ComparisonAnswer::SecondYes(set) => accepted_difference(1, set),

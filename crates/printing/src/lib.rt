@@ -61,8 +61,8 @@ pub fn print_refusal(refusal: book::Refusal) {
     print_refused(book::reason_number(reason), refusal.line as u64);
 }
 
-pub fn print_declined(reason: book::Declined) {
-    match reason {
+pub fn print_declined(why: book::Declined) {
+    match why {
         book::Declined::Refused(refusal) => print_refusal(refusal),
         book::Declined::NoCondition => print_refused(book::NO_CONDITION, 0),
     }
@@ -185,7 +185,7 @@ pub fn print_logger(d: score::Decision) {
     match d {
         score::Decision::Yes => print(b"yes"),
         score::Decision::No => print(b"no"),
-        score::Decision::Declined(reason) => print_declined(reason),
+        score::Decision::Declined(why) => print_declined(why),
     }
 }
 
@@ -199,6 +199,6 @@ fn print_exact(x: score::Exact) {
 pub fn print_score(e: score::Evaluation) {
     match e {
         score::Evaluation::Score(x) => print_exact(x),
-        score::Evaluation::Declined(reason) => print_declined(reason),
+        score::Evaluation::Declined(why) => print_declined(why),
     }
 }

@@ -47,7 +47,7 @@ pub fn decide(bytes: &[u8], condition: u32, set: u16) -> Decision
                 Decision::No
             }
         }
-        book::Asked::Declined(declined) => Decision::Declined(declined),
+        book::Asked::Declined(why) => Decision::Declined(why),
     }
 }
 
@@ -68,6 +68,6 @@ pub fn evaluate(bytes: &[u8], condition: u32, set: u16) -> Evaluation
             let shown = expression_score(&cells, n, set);
             Evaluation::Score(shown)
         }
-        book::Asked::Declined(declined) => Evaluation::Declined(declined),
+        book::Asked::Declined(why) => Evaluation::Declined(why),
     }
 }

@@ -15,11 +15,11 @@ use Rattle.exports.proofs.cerahupo_check.Tie as tie
 check-requires : tie.Need-check-requires
 check-requires c κs = search needs
 
-enum-known-c : tie.Need-enum-known-c
-enum-known-c c = search needs
+enum-known-answer : tie.Need-enum-known-answer
+enum-known-answer c = search needs
 
-small : (c : tie.After-c) → (c .c .given .0 .0 ≤ 16) × (c .c .given .0 .1 .0 ≤ 8)
-small c = counts-small _ _ (in-arm checkedMeaning (c .before .before .check .ensures) (c .c .given .1))
+small : (c : tie.After-answer) → (c .answer .given .0 .0 ≤ 16) × (c .answer .given .0 .1 .0 ≤ 8)
+small c = counts-small _ _ (in-arm checkedMeaning (c .before .before .check .ensures) (c .answer .given .1))
 
 mul-value : tie.Need-mul-value
 mul-value c = let h = small (c .before) in omega arith
@@ -30,30 +30,30 @@ add-value c = let h = small (c .before) in omega arith
 accepted-requires : tie.Need-accepted-requires
 accepted-requires c κs = let h = small (c .before) in omega arith
 
-enum-known-c-2 : tie.Need-enum-known-c-2
-enum-known-c-2 c = search needs
+enum-known-answer-2 : tie.Need-enum-known-answer-2
+enum-known-answer-2 c = search needs
 
 refused-book-requires : tie.Need-refused-book-requires
-refused-book-requires c κs = omega (arith, in-table (checking _) (in-arm checkedMeaning (c .before .before .before .check .ensures) (c .before .c2 .given .1)))
+refused-book-requires c κs = omega (arith, in-table (checking _) (in-arm checkedMeaning (c .before .before .before .check .ensures) (c .before .answer2 .given .1)))
 
 returns : tie.Need-returns
 unfolding packed countsValue
-returns c = let a = c .before .before in c .accepted .ensures ∙ ap (packed countsValue) (in-arm checkedMeaning (a .before .before .check .ensures) (a .c .given .1))
+returns c = let a = c .before .before in c .accepted .ensures ∙ ap (packed countsValue) (in-arm checkedMeaning (a .before .before .check .ensures) (a .answer .given .1))
 
 returns-2 : tie.Need-returns-2
 unfolding packed
-returns-2 c = let a = c .before .before in c .refused-book .ensures ∙ ap (packed countsValue) (in-arm checkedMeaning (a .before .before .check .ensures) (a .c2 .given .1))
+returns-2 c = let a = c .before .before in c .refused-book .ensures ∙ ap (packed countsValue) (in-arm checkedMeaning (a .before .before .check .ensures) (a .answer2 .given .1))
 
 pub cerahupo-check-spec : {M : Type 1} → statement M
 cerahupo-check-spec =
     tie.close
     (tie.spec
     check-requires
-    enum-known-c
+    enum-known-answer
     mul-value
     add-value
     accepted-requires
-    enum-known-c-2
+    enum-known-answer-2
     refused-book-requires
     returns
     returns-2)

@@ -19,35 +19,35 @@ enum-told c = search needs
 accepted-requires : tie.Need-accepted-requires
 accepted-requires c κs = search needs
 
-enum-known-c : tie.Need-enum-known-c
-enum-known-c c = search needs
+enum-known-answer : tie.Need-enum-known-answer
+enum-known-answer c = search needs
 
 accepted-difference-requires : tie.Need-accepted-difference-requires
 accepted-difference-requires c κs = search needs
 
-enum-known-c-2 : tie.Need-enum-known-c-2
-enum-known-c-2 c = search needs
+enum-known-answer-2 : tie.Need-enum-known-answer-2
+enum-known-answer-2 c = search needs
 
 accepted-difference-requires-2 : tie.Need-accepted-difference-requires-2
 accepted-difference-requires-2 c κs = search needs
 
-enum-known-c-3 : tie.Need-enum-known-c-3
-enum-known-c-3 c = search needs
+enum-known-answer-3 : tie.Need-enum-known-answer-3
+enum-known-answer-3 c = search needs
 
 second : (r number value : ℕ) → r ≡ asOne number value → r + secondHigher ≡ asOne (ofSecond number) value
 second r number value e = omega arith
 
 refused-listing-requires : tie.Need-refused-listing-requires
-refused-listing-requires c κs = let d = c .before .before .before in omega (arith, d .before .before .before .good, first-in-table _ _ (in-arm comparisonMeaning (d .compare .ensures) (c .before .c3 .given .1)))
+refused-listing-requires c κs = let d = c .before .before .before in omega (arith, d .before .before .before .good, first-in-table _ _ (in-arm comparisonMeaning (d .compare .ensures) (c .before .answer3 .given .1)))
 
-enum-known-c-4 : tie.Need-enum-known-c-4
-enum-known-c-4 c = search needs
+enum-known-answer-4 : tie.Need-enum-known-answer-4
+enum-known-answer-4 c = search needs
 
 refused-listing-requires-2 : tie.Need-refused-listing-requires-2
-refused-listing-requires-2 c κs = let d = c .before .before .before in omega (arith, d .before .before .before .good, second-in-table _ _ (in-arm comparisonMeaning (d .compare .ensures) (c .before .c4 .given .1)))
+refused-listing-requires-2 c κs = let d = c .before .before .before in omega (arith, d .before .before .before .good, second-in-table _ _ (in-arm comparisonMeaning (d .compare .ensures) (c .before .answer4 .given .1)))
 
 add-result : tie.Need-add-result
-add-result c = let d = c .before .before .before .before in omega (arith, c .refused-listing2 .ensures, d .before .before .before .good, second-in-table _ _ (in-arm comparisonMeaning (d .compare .ensures) (c .before .before .c4 .given .1)))
+add-result c = let d = c .before .before .before .before in omega (arith, c .refused-listing2 .ensures, d .before .before .before .good, second-in-table _ _ (in-arm comparisonMeaning (d .compare .ensures) (c .before .before .answer4 .given .1)))
 
 returns : tie.Need-returns
 unfolding packedComparison
@@ -55,19 +55,19 @@ returns c = let a = c .before in c .accepted .ensures ∙ ap packedComparison (i
 
 returns-2 : tie.Need-returns-2
 unfolding packedComparison
-returns-2 c = let a = c .before .before in c .accepted-difference .ensures ∙ ap packedComparison (in-arm comparisonMeaning (a .before .before .compare .ensures) (a .c .given .1))
+returns-2 c = let a = c .before .before in c .accepted-difference .ensures ∙ ap packedComparison (in-arm comparisonMeaning (a .before .before .compare .ensures) (a .answer .given .1))
 
 returns-3 : tie.Need-returns-3
 unfolding packedComparison
-returns-3 c = let a = c .before .before in c .accepted-difference2 .ensures ∙ ap packedComparison (in-arm comparisonMeaning (a .before .before .compare .ensures) (a .c2 .given .1))
+returns-3 c = let a = c .before .before in c .accepted-difference2 .ensures ∙ ap packedComparison (in-arm comparisonMeaning (a .before .before .compare .ensures) (a .answer2 .given .1))
 
 returns-4 : tie.Need-returns-4
 unfolding packedComparison
-returns-4 c = let a = c .before .before in c .refused-listing .ensures ∙ ap packedComparison (in-arm comparisonMeaning (a .before .before .compare .ensures) (a .c3 .given .1))
+returns-4 c = let a = c .before .before in c .refused-listing .ensures ∙ ap packedComparison (in-arm comparisonMeaning (a .before .before .compare .ensures) (a .answer3 .given .1))
 
 returns-5 : tie.Need-returns-5
 unfolding packedComparison
-returns-5 c = let a = c .before .before in second _ _ _ (c .refused-listing2 .ensures) ∙ ap packedComparison (in-arm comparisonMeaning (a .before .before .compare .ensures) (a .c4 .given .1))
+returns-5 c = let a = c .before .before in second _ _ _ (c .refused-listing2 .ensures) ∙ ap packedComparison (in-arm comparisonMeaning (a .before .before .compare .ensures) (a .answer4 .given .1))
 
 pub cerahupo-compare-spec : {M : Type 1} → statement M
 cerahupo-compare-spec =
@@ -76,13 +76,13 @@ cerahupo-compare-spec =
     compare-requires
     enum-told
     accepted-requires
-    enum-known-c
+    enum-known-answer
     accepted-difference-requires
-    enum-known-c-2
+    enum-known-answer-2
     accepted-difference-requires-2
-    enum-known-c-3
+    enum-known-answer-3
     refused-listing-requires
-    enum-known-c-4
+    enum-known-answer-4
     refused-listing-requires-2
     add-result
     returns

@@ -14,22 +14,22 @@ use Rattle.exports.proofs.cerahupo_compile.Tie as tie
 compile-requires : tie.Need-compile-requires
 compile-requires c κs = search needs
 
-enum-known-c : tie.Need-enum-known-c
-enum-known-c c = search needs
+enum-known-answer : tie.Need-enum-known-answer
+enum-known-answer c = search needs
 
 accepted-requires : tie.Need-accepted-requires
 accepted-requires c κs =
     let a = c .before in
     let x = a .before .before .before .before in
-    omega (arith, x .before .before .before .before .good, returned-from (x .compile .ensures) (a .c .given .1) .room)
+    omega (arith, x .before .before .before .before .good, returned-from (x .compile .ensures) (a .answer .given .1) .room)
 
-enum-known-c-2 : tie.Need-enum-known-c-2
-enum-known-c-2 c = search needs
+enum-known-answer-2 : tie.Need-enum-known-answer-2
+enum-known-answer-2 c = search needs
 
 declined-requires : tie.Need-declined-requires
 declined-requires c κs =
     let a = c .before in
-    omega (arith, in-table (compiling _ _ _) (in-arm compiledMeaning (a .before .before .before .before .compile .ensures .returning) (a .c2 .given .1)))
+    omega (arith, in-table (compiling _ _ _) (in-arm compiledMeaning (a .before .before .before .before .compile .ensures .returning) (a .answer2 .given .1)))
 
 enum-told : tie.Need-enum-told
 enum-told c = search needs
@@ -45,7 +45,7 @@ unfolding packed
 returns c =
     let a = c .before .before in
     let x = a .before .before .before .before in
-    record { packing = c .accepted .ensures ∙ ap (packed itself) (in-arm compiledMeaning (x .compile .ensures .returning) (a .c .given .1)); leaving = x .compile .ensures .leaving }
+    record { packing = c .accepted .ensures ∙ ap (packed itself) (in-arm compiledMeaning (x .compile .ensures .returning) (a .answer .given .1)); leaving = x .compile .ensures .leaving }
 
 same-length-2 : tie.Need-same-length-2
 same-length-2 c = search needs
@@ -55,7 +55,7 @@ unfolding packed
 returns-2 c =
     let a = c .before .before in
     let x = a .before .before .before .before in
-    record { packing = c .declined .ensures ∙ ap (packed itself) (in-arm compiledMeaning (x .compile .ensures .returning) (a .c2 .given .1)); leaving = x .compile .ensures .leaving }
+    record { packing = c .declined .ensures ∙ ap (packed itself) (in-arm compiledMeaning (x .compile .ensures .returning) (a .answer2 .given .1)); leaving = x .compile .ensures .leaving }
 
 same-length-3 : tie.Need-same-length-3
 same-length-3 c = search needs
@@ -72,9 +72,9 @@ cerahupo-compile-spec =
     tie.close
     (tie.spec
     compile-requires
-    enum-known-c
+    enum-known-answer
     accepted-requires
-    enum-known-c-2
+    enum-known-answer-2
     declined-requires
     enum-told
     refused-requires

@@ -26,11 +26,11 @@ enum-told-2 c = search needs
 accepted-requires-2 : tie.Need-accepted-requires-2
 accepted-requires-2 c κs = search needs
 
-enum-known-d : tie.Need-enum-known-d
-enum-known-d c = search needs
+enum-known-answer : tie.Need-enum-known-answer
+enum-known-answer c = search needs
 
 declined-requires : tie.Need-declined-requires
-declined-requires c κs = omega (arith, in-table (deciding _ _ _) (in-arm scoreMeaning (c .before .before .before .decide .ensures) (c .before .d .given .1)))
+declined-requires c κs = omega (arith, in-table (deciding _ _ _) (in-arm scoreMeaning (c .before .before .before .decide .ensures) (c .before .answer .given .1)))
 
 returns : tie.Need-returns
 unfolding packed oneIf
@@ -42,7 +42,7 @@ returns-2 c = let a = c .before in c .accepted2 .ensures ∙ ap (packed oneIf) (
 
 returns-3 : tie.Need-returns-3
 unfolding packed
-returns-3 c = let a = c .before .before in c .declined .ensures ∙ ap (packed oneIf) (in-arm scoreMeaning (a .before .before .decide .ensures) (a .d .given .1))
+returns-3 c = let a = c .before .before in c .declined .ensures ∙ ap (packed oneIf) (in-arm scoreMeaning (a .before .before .decide .ensures) (a .answer .given .1))
 
 pub cerahupo-decide-spec : {M : Type 1} → statement M
 cerahupo-decide-spec =
@@ -53,7 +53,7 @@ cerahupo-decide-spec =
     accepted-requires
     enum-told-2
     accepted-requires-2
-    enum-known-d
+    enum-known-answer
     declined-requires
     returns
     returns-2

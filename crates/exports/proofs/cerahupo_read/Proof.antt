@@ -26,11 +26,11 @@ enum-told-2 c = search needs
 accepted-requires-2 : tie.Need-accepted-requires-2
 accepted-requires-2 c κs = search needs
 
-enum-known-d : tie.Need-enum-known-d
-enum-known-d c = search needs
+enum-known-answer : tie.Need-enum-known-answer
+enum-known-answer c = search needs
 
 refused-listing-requires : tie.Need-refused-listing-requires
-refused-listing-requires c κs = let d = c .before .before .before in omega (arith, d .before .before .good, in-table (rod-reading _ _) (in-arm rodMeaning (d .decide .ensures) (c .before .d .given .1)))
+refused-listing-requires c κs = let d = c .before .before .before in omega (arith, d .before .before .good, in-table (rod-reading _ _) (in-arm rodMeaning (d .decide .ensures) (c .before .answer .given .1)))
 
 returns : tie.Need-returns
 unfolding packed oneIf
@@ -42,7 +42,7 @@ returns-2 c = let a = c .before in c .accepted2 .ensures ∙ ap (packed oneIf) (
 
 returns-3 : tie.Need-returns-3
 unfolding packed
-returns-3 c = let a = c .before .before in c .refused-listing .ensures ∙ ap (packed oneIf) (in-arm rodMeaning (a .before .before .decide .ensures) (a .d .given .1))
+returns-3 c = let a = c .before .before in c .refused-listing .ensures ∙ ap (packed oneIf) (in-arm rodMeaning (a .before .before .decide .ensures) (a .answer .given .1))
 
 pub cerahupo-read-spec : {M : Type 1} → statement M
 cerahupo-read-spec =
@@ -53,7 +53,7 @@ cerahupo-read-spec =
     accepted-requires
     enum-told-2
     accepted-requires-2
-    enum-known-d
+    enum-known-answer
     refused-listing-requires
     returns
     returns-2

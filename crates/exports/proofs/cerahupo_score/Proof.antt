@@ -20,13 +20,13 @@ use Rattle.exports.proofs.cerahupo_score.Tie as tie
 evaluate-requires : tie.Need-evaluate-requires
 evaluate-requires c κs = search needs
 
-enum-known-evaluation : tie.Need-enum-known-evaluation
-enum-known-evaluation c = search needs
+enum-known-answer : tie.Need-enum-known-answer
+enum-known-answer c = search needs
 
 -- the hundredths, counted from the lowest
 module _ (c : tie.After-struct-told) where
   abbrev hundredths : ℤ
-  hundredths = c .before .before .before .evaluation .given .0 .0 .hundredths
+  hundredths = c .before .before .before .answer .given .0 .0 .hundredths
 
   fits : SFits w64 hundredths
   fits = search needs
@@ -35,7 +35,7 @@ module _ (c : tie.After-struct-told) where
   counted =
       let e = c .before .before .before in
       let s = e .before .before .before .before in
-      hundredths-natural (now (s .args .bytes)) (s .args .condition) (s .args .set) _ (sym (in-arm shownMeaning (e .before .before .evaluate .ensures) (e .evaluation .given .1)))
+      hundredths-natural (now (s .args .bytes)) (s .args .condition) (s .args .set) _ (sym (in-arm shownMeaning (e .before .before .evaluate .ensures) (e .answer .given .1)))
 
   sum-fits : SFits w64 (hundredths +ℤ belowZero)
   sum-fits = let (n, e, l) = counted in subst (SFits w64) (sym e) (record { sfits = omega arith })
@@ -52,25 +52,25 @@ cast-value c = let (n, e, l) = counted c in natural-fits _ n (sum-back c ∙ e) 
 accepted-requires : tie.Need-accepted-requires
 accepted-requires c κs = let (n, e, l) = counted c in omega (arith, ap natAbs (sum-back c ∙ e))
 
-enum-known-evaluation-2 : tie.Need-enum-known-evaluation-2
-enum-known-evaluation-2 c = search needs
+enum-known-answer-2 : tie.Need-enum-known-answer-2
+enum-known-answer-2 c = search needs
 
 declined-requires : tie.Need-declined-requires
-declined-requires c κs = omega (arith, in-table (scoring _ _ _) (in-arm shownMeaning (c .before .before .before .evaluate .ensures) (c .before .evaluation2 .given .1)))
+declined-requires c κs = omega (arith, in-table (scoring _ _ _) (in-arm shownMeaning (c .before .before .before .evaluate .ensures) (c .before .answer2 .given .1)))
 
 returns : tie.Need-returns
 unfolding packed scoreValue remainderAfter
 returns c =
     let t = c .before in
     let e = t .before .before .before in
-    let told = in-arm shownMeaning (e .before .before .evaluate .ensures) (e .evaluation .given .1) in
+    let told = in-arm shownMeaning (e .before .before .evaluate .ensures) (e .answer .given .1) in
     record { packing = c .accepted .ensures ∙ ap (λ (z : ℤ). asOne 0 (natAbs z)) (sum-back t) ∙ ap (packed scoreValue) told; leaving = ap (remainderAfter _) told }
 
 returns-2 : tie.Need-returns-2
 unfolding packed remainderAfter
 returns-2 c =
     let a = c .before .before in
-    let told = in-arm shownMeaning (a .before .before .evaluate .ensures) (a .evaluation2 .given .1) in
+    let told = in-arm shownMeaning (a .before .before .evaluate .ensures) (a .answer2 .given .1) in
     record { packing = c .declined .ensures ∙ ap (packed scoreValue) told; leaving = ap (remainderAfter _) told }
 
 pub cerahupo-score-spec : {M : Type 1} → statement M
@@ -78,11 +78,11 @@ cerahupo-score-spec =
     tie.close
     (tie.spec
     evaluate-requires
-    enum-known-evaluation
+    enum-known-answer
     add-value
     cast-value
     accepted-requires
-    enum-known-evaluation-2
+    enum-known-answer-2
     declined-requires
     returns
     returns-2)

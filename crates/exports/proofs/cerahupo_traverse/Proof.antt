@@ -13,8 +13,8 @@ use Rattle.exports.proofs.cerahupo_traverse.Tie as tie
 traverse-requires : tie.Need-traverse-requires
 traverse-requires c κs = search needs
 
-enum-known-t : tie.Need-enum-known-t
-enum-known-t c = search needs
+enum-known-answer : tie.Need-enum-known-answer
+enum-known-answer c = search needs
 
 accepted-requires : tie.Need-accepted-requires
 accepted-requires c κs = search needs
@@ -25,14 +25,14 @@ enum-told c = search needs
 refused-requires : tie.Need-refused-requires
 refused-requires c κs = search needs
 
-enum-known-t-2 : tie.Need-enum-known-t-2
-enum-known-t-2 c = search needs
+enum-known-answer-2 : tie.Need-enum-known-answer-2
+enum-known-answer-2 c = search needs
 
 refused-listing-requires : tie.Need-refused-listing-requires
 refused-listing-requires c κs =
     let a = c .before in
     let x = a .before .before .before .before in
-    omega (arith, x .before .before .before .before .before .good, in-table (traversing _ _ _) (in-arm traverseMeaning (x .traverse .ensures .returning) (a .t2 .given .1)))
+    omega (arith, x .before .before .before .before .before .good, in-table (traversing _ _ _) (in-arm traverseMeaning (x .traverse .ensures .returning) (a .answer2 .given .1)))
 
 same-length : tie.Need-same-length
 same-length c = search needs
@@ -42,7 +42,7 @@ unfolding packed answersValue
 returns c =
     let a = c .before .before in
     let x = a .before .before .before .before in
-    record { packing = c .accepted .ensures ∙ ap (packed answersValue) (in-arm traverseMeaning (x .traverse .ensures .returning) (a .t .given .1)); leaving = x .traverse .ensures .leaving }
+    record { packing = c .accepted .ensures ∙ ap (packed answersValue) (in-arm traverseMeaning (x .traverse .ensures .returning) (a .answer .given .1)); leaving = x .traverse .ensures .leaving }
 
 same-length-2 : tie.Need-same-length-2
 same-length-2 c = search needs
@@ -62,18 +62,18 @@ unfolding packed
 returns-3 c =
     let a = c .before .before in
     let x = a .before .before .before .before in
-    record { packing = c .refused-listing .ensures ∙ ap (packed answersValue) (in-arm traverseMeaning (x .traverse .ensures .returning) (a .t2 .given .1)); leaving = x .traverse .ensures .leaving }
+    record { packing = c .refused-listing .ensures ∙ ap (packed answersValue) (in-arm traverseMeaning (x .traverse .ensures .returning) (a .answer2 .given .1)); leaving = x .traverse .ensures .leaving }
 
 pub cerahupo-traverse-spec : {M : Type 1} → statement M
 cerahupo-traverse-spec =
     tie.close
     (tie.spec
     traverse-requires
-    enum-known-t
+    enum-known-answer
     accepted-requires
     enum-told
     refused-requires
-    enum-known-t-2
+    enum-known-answer-2
     refused-listing-requires
     same-length
     returns

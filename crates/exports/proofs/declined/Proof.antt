@@ -9,14 +9,14 @@ use Rattle.exports.specs.Packing.{asOne}
 use Rattle.exports.proofs.declined.Statement.{statement}
 use Rattle.exports.proofs.declined.Tie as tie
 
-abbrev packedReason : Declined → ℕ
-packedReason d = asOne (declinedNumber d) (declinedValue d)
+abbrev packedDeclined : Declined → ℕ
+packedDeclined d = asOne (declinedNumber d) (declinedValue d)
 
-enum-known-reason : tie.Need-enum-known-reason
-enum-known-reason c = search needs
+enum-known-why : tie.Need-enum-known-why
+enum-known-why c = search needs
 
 refused-book-requires : tie.Need-refused-book-requires
-refused-book-requires c κs = omega (arith, ap declinedValue (c .before .reason .given .1))
+refused-book-requires c κs = omega (arith, ap declinedValue (c .before .why .given .1))
 
 enum-told : tie.Need-enum-told
 enum-told c = search needs
@@ -25,12 +25,12 @@ refused-requires : tie.Need-refused-requires
 refused-requires c κs = search needs
 
 returns : tie.Need-returns
-returns c = c .refused-book .ensures ∙ ap packedReason (sym (c .before .before .reason .given .1))
+returns c = c .refused-book .ensures ∙ ap packedDeclined (sym (c .before .before .why .given .1))
 
 returns-2 : tie.Need-returns-2
-returns-2 c = c .refused .ensures ∙ ap packedReason (sym (c .before .enum-told .given .1))
+returns-2 c = c .refused .ensures ∙ ap packedDeclined (sym (c .before .enum-told .given .1))
 
 pub declined-spec : {M : Type 1} → statement M
 declined-spec =
     tie.close
-    (tie.spec enum-known-reason refused-book-requires enum-told refused-requires returns returns-2)
+    (tie.spec enum-known-why refused-book-requires enum-told refused-requires returns returns-2)
