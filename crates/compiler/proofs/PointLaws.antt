@@ -7,6 +7,9 @@ use lib.Dec.{T}
 use lib.IntN.{ℤ, natAbs}
 use lib.ListN.{length, getD, length-append}
 use lib.Signed.{mag, nonNeg}
+use mir.Syntax.{w64}
+use mir.Val.{SFits, toZ, ofZ}
+use mir.ValLaws.{toZ-ofZ}
 use Rattle.arith.proofs.Each.{each-get}
 use Rattle.peal.specs.Standins.{noRule}
 use Rattle.peal.specs.Policies.{Rule, maskOf}
@@ -49,6 +52,11 @@ module _ {op : Operator} {plan : List ℤ} {count : ℕ} {value : ℤ} {left : �
 
   pub taken-small : mag value ≤ 10 ^ 16
   taken-small = subst (λ (z : ℤ). mag z ≤ 10 ^ 16) (sym (h .valued)) (worth-small o (p .taken) (h .range))
+
+  -- the value as it is read back
+  pub read-back : SFits w64 value → Searching op plan count (toZ w64 (ofZ w64 value)) left p
+  read-back fits =
+      record { planned = h .planned; counted = h .counted; valued = toZ-ofZ w64 value fits ∙ h .valued; inside = h .inside; range = h .range }
 
   -- the same, with no rule still to come
   pub none-coming : Searching op plan count value 0 p

@@ -1,6 +1,6 @@
 -- A turn of the search, whatever is done with the sets that are found.
 use Prim.Native.Nat.{ℕ, _+_, _-_, _≤_, _<_}
-use mathlib.Core.Bool.{true, false}
+use mathlib.Core.Bool.{Bool, true, false}
 use mathlib.Core.List.{List, [], _∷_, _++_, map, map-append}
 use mathlib.Core.Path.{_≡_, refl, sym, ap, _∙_}
 use native.Mathlib.Nat.{add-zero}
@@ -11,9 +11,11 @@ use Rattle.layout.specs.Nodes.{lineRecords}
 use Rattle.layout.specs.Writing.{putRecord, putRecords, lineRecord, linesUpTo}
 use Rattle.layout.proofs.WritingLaws.{put-lines-append, lines-up-to}
 use Rattle.peal.specs.Policies.{Rule, maskOf}
+use Rattle.peal.specs.Combining.{combinedOf}
 use Rattle.peal.specs.declared.Operator.{Operator}
-use Rattle.compiler.specs.Searching.{Point, having, allAt, taking, found, Searching, putSets}
-use Rattle.compiler.proofs.PointLaws.{left-out}
+use Rattle.compiler.specs.Planning.{scoreIn}
+use Rattle.compiler.specs.Searching.{Point, having, allAt, taking, found, Searching, ForPoints, putSets}
+use Rattle.compiler.proofs.PointLaws.{none-coming, left-out, taken-in}
 use Rattle.compiler.proofs.FoundLaws.{tried, tried-itself, tried-further, found-further}
 
 -- what is done with sets, one after the other, and the number that comes next
@@ -29,54 +31,76 @@ pub record Underway {A : Type 0} (d : Doing A) (o : Operator) (plan : List ℤ) 
   pub here : Searching o plan count value left p
   pub leads : d .run a (found p left) ≡ d .run begun (found p rank)
 
+-- a rule is tried, since all the rules together have the property; with it those taken are worth v
+pub record Trying (o : Operator) (plan : List ℤ) (count : ℕ) (value : ℤ) (left : ℕ) (v : ℤ) : Type 0 where
+  pub some : 0 < left
+  pub reaches : ForPoints o plan count value left (λ p. having p (allAt p left) ≡ true)
+  pub valued : v ≡ combinedOf o value (scoreIn plan left)
+
+-- the point with that rule
+pub taken : {o : Operator} {plan : List ℤ} {count : ℕ} {value : ℤ} {left : ℕ} {v : ℤ} {p : Point} → Trying o plan count value left v → Searching o plan count value left p
+    → Searching o plan (count + 1) v (left - 1) (taking p left)
+taken t h = taken-in (t .some) h (t .valued)
+
 module _ {A : Type 0} {d : Doing A} {o : Operator} {plan : List ℤ} {count : ℕ} {value : ℤ} {p : Point} {begun : A} {rank : ℕ} {a : A} {left : ℕ}
     (u : Underway d o plan count value p begun rank a left) where
   -- nothing more is found
   pub ended : found p left ≡ [] → a ≡ d .run begun (found p rank)
   ended e = sym (d .none a) ∙ ap (d .run a) (sym e) ∙ u .leads
 
-  module _ (some : 0 < left) (reach : having p (allAt p left) ≡ true) where
+  -- whether the rules tried have the property
+  module _ {v : ℤ} (t : Trying o plan count value left v) {b : Bool} (told : ForPoints o plan (count + 1) v 0 (λ q. b ≡ having q (q .taken))) where
     abbrev next : Point
     next = taking p left
 
+    tells : having next (next .taken) ≡ b
+    tells = sym (told next (none-coming (taken t (u .here))))
+
     further : found p left ≡ tried next (left - 1) ++ found p (left - 1)
-    further = found-further some (u .here) reach
+    further = found-further (t .some) (u .here) (t .reaches p (u .here))
 
     -- the sets found with the rule have numbers among those of all
-    room : d .number a + length (tried next (left - 1)) ≤ d .number begun + length (found p rank)
-    room =
+    room : {F : List (List Rule)} → tried next (left - 1) ≡ F → d .number a + length F ≤ d .number begun + length (found p rank)
+    room e =
         omega (
           arith,
           sym (d .counts a (found p left)) ∙ ap (d .number) (u .leads) ∙ d .counts begun (found p rank),
-          ap (λ (F : List (List Rule)). length F) further,
+          ap (λ (G : List (List Rule)). length G) further,
           length-append (tried next (left - 1)) (found p (left - 1)),
+          ap (λ (G : List (List Rule)). length G) e,
         )
 
     -- they are done, and the rule is left out
-    passed : {b : A} → b ≡ d .run a (tried next (left - 1)) → Underway d o plan count value p begun rank b (left - 1)
-    passed {b} e =
+    passed : {F : List (List Rule)} → tried next (left - 1) ≡ F → {x : A} → x ≡ d .run a F → Underway d o plan count value p begun rank x (left - 1)
+    passed e f =
         record {
-          here = left-out some (u .here);
+          here = left-out (t .some) (u .here);
           leads =
-              ap (λ (x : A). d .run x (found p (left - 1))) e
+              ap (λ (y : A). d .run y (found p (left - 1))) (f ∙ ap (d .run a) (sym e))
               ∙ sym (ap (d .run a) further ∙ d .append a (tried next (left - 1)) (found p (left - 1))) ∙ u .leads;
         }
 
-    -- the rules tried have the property: they are the one set found
-    module _ (yes : having next (next .taken) ≡ true) where
-      pub one-room : d .number a + 1 ≤ d .number begun + length (found p rank)
-      one-room = omega (arith, room, ap (λ (F : List (List Rule)). length F) (tried-itself next (left - 1) yes))
+    -- they have: they are the one set found
+    module _ (yes : b ≡ true) where
+      itself : tried next (left - 1) ≡ next .taken ∷ []
+      itself = tried-itself next (left - 1) (tells ∙ yes)
 
-      pub one-done : {b : A} → b ≡ d .run a (next .taken ∷ []) → Underway d o plan count value p begun rank b (left - 1)
-      one-done e = passed (e ∙ ap (d .run a) (sym (tried-itself next (left - 1) yes)))
+      pub one-room : d .number a + 1 ≤ d .number begun + length (found p rank)
+      one-room = room itself
+
+      pub one-done : {x : A} → x ≡ d .run a (next .taken ∷ []) → Underway d o plan count value p begun rank x (left - 1)
+      one-done e = passed itself e
 
     -- they have not: what is found beyond them
-    module _ (no : having next (next .taken) ≡ false) where
-      pub more-room : d .number a + length (found next (left - 1)) ≤ d .number begun + length (found p rank)
-      more-room = omega (arith, room, ap (λ (F : List (List Rule)). length F) (tried-further next (left - 1) no))
+    module _ (no : b ≡ false) where
+      beyond : tried next (left - 1) ≡ found next (left - 1)
+      beyond = tried-further next (left - 1) (tells ∙ no)
 
-      pub more-done : {b : A} → b ≡ d .run a (found next (left - 1)) → Underway d o plan count value p begun rank b (left - 1)
-      more-done e = passed (e ∙ ap (d .run a) (sym (tried-further next (left - 1) no)))
+      pub more-room : d .number a + length (found next (left - 1)) ≤ d .number begun + length (found p rank)
+      more-room = room beyond
+
+      pub more-done : {x : A} → x ≡ d .run a (found next (left - 1)) → Underway d o plan count value p begun rank x (left - 1)
+      more-done e = passed beyond e
 
 -- ---- they are counted
 

@@ -7,8 +7,8 @@ ghost use lib.Signed.{mag};
 ghost use Rattle.compiler.specs.Worth.{initial as initialOf, clamped as clampedOf, limitOf, NextLimit};
 ghost use Rattle.compiler.specs.Planning.{ThresholdFits, RulesKept, withRow, PlanOf};
 
-// A row for each number k of rules, from none to sixteen. First stands the limit of the sets of k rules; after it, at these
-// places, the operator over the k rules of lowest rank, and the score and the bit of the first of these.
+// The plan has a row for each number k of rules, from none to sixteen. First stands the limit of the sets of k rules;
+// after it, at these places, the operator over the k rules of lowest rank, and the score and the bit of the first of these.
 pub const ROW: usize = 4;
 
 pub const REST: usize = 1;

@@ -1,5 +1,5 @@
-// The search for a policy's minimal sets, by recursion on a falling rank (document 000, figure 5, but for its test of the
-// empty set). `count_found` makes it to count the sets, `search` to put them as lines.
+// The search for a policy's minimal sets, by recursion on a falling rank (document 000, figure 5, but for its test of
+// the empty set). `count_found` makes it to count the sets, `search` to put them as lines.
 // For this crate only: no other can name these functions, and each call is proved to meet its condition.
 use crate::planning::BIT;
 use crate::planning::Plan;
@@ -87,18 +87,19 @@ fn count_found(
             return sets;
         }
         let next = next_value(operator, plan, value, left);
+        let taken = count + 1;
         left -= 1;
-        if has_reached(operator, plan, count + 1, next) {
+        if has_reached(operator, plan, taken, next) {
             sets += 1;
         } else {
-            sets += count_found(operator, plan, count + 1, next, left);
+            sets += count_found(operator, plan, taken, next, left);
         }
     }
     sets
 }
 
-// The same sets as lines from record `at` on, where the mask is that of the rules taken and record `last` the policy's last
-// line. Returns the number of the record after them.
+// The same sets as lines from record `at` on, where the mask is that of the rules taken and record `last` is the
+// policy's last line. Returns the number of the record after them.
 fn search(
     operator: peal::Operator,
     plan: &Plan,
@@ -122,22 +123,13 @@ fn search(
         }
         let next = next_value(operator, plan, value, left);
         let set = next_mask(plan, mask, left);
+        let taken = count + 1;
         left -= 1;
-        if has_reached(operator, plan, count + 1, next) {
+        if has_reached(operator, plan, taken, next) {
             layout::put_line(words, after, set, last);
             after += 1;
         } else {
-            after = search(
-                operator,
-                plan,
-                set,
-                count + 1,
-                next,
-                left,
-                words,
-                after,
-                last,
-            );
+            after = search(operator, plan, set, taken, next, left, words, after, last);
         }
     }
     after
