@@ -24,7 +24,7 @@ use Rattle.compiler.specs.Compiling.{compiled, returned, lentAfter, compiledLis
 use Rattle.compiler.specs.declared.Compiled.the-variants.{Records}
 use Rattle.agreement.specs.Demand3.{CompilingRan, MinimalMasks, StandsFor, MinimalListing}
 use Rattle.agreement.proofs.Conditions.{policy-in-range}
-use Rattle.agreement.proofs.Demand3.{compiled-agreement, minimal-listing}
+use Rattle.agreement.proofs.Demand3.{compiled-sound, minimal-listing}
 use Rattle.agreement.proofs.LineMasks.{minimal-mask-inside}
 use Rattle.agreement.proofs.Policies.{signals-fit}
 use Rattle.same_lines.specs.SameLines.{OnePolicy}
@@ -63,12 +63,8 @@ module _ (listing : List ℕ) (p : ListedPolicy) (h : OnePolicy listing p) where
   left-there : listing ≡ compiledListing (h .count) (lentAfter (h .lent) (compiled (h .bytes) (h .number) (length (h .lent))))
   left-there = h .listed ∙ ap (compiledListing (h .count)) (h .compiling .leaving)
 
-  -- the rod does not refuse it
   is-sound : verdict listing ≡ result tt
-  unfolding rodAnswer
-  is-sound =
-      let (said, answered, scored) = compiled-agreement (h .bytes) (h .number) 0 (h .count) (h .lent) ran in
-      gone-on (verdict listing) _ said (ap (λ (ws : List ℕ). rodAnswer ws 0) left-there ∙ answered) .1
+  is-sound = ap verdict left-there ∙ compiled-sound (h .bytes) (h .number) (h .count) (h .lent) ran
 
   policy-fits : PolicyFits p
   unfolding noRecord
