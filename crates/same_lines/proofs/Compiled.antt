@@ -7,14 +7,13 @@ use lib.IntN.{ℤ}
 use lib.ListN.{length, replicate}
 use Rattle.arith.specs.Trees.{Node, value, joining, postfix, run}
 use Rattle.answers.specs.Answers.{result}
-use Rattle.answers.proofs.Results.{gone-on}
 use Rattle.signals.proofs.SetOfLaws.{inside-overlap}
 use Rattle.layout.specs.Records.{records}
 use Rattle.layout.specs.Judgement.{verdict, noRecord}
 use Rattle.layout.specs.Nodes.{ListedPolicy, nodes}
 use Rattle.layout.specs.WellFormed.{PolicyFits, WellFormed}
 use Rattle.layout.proofs.Shape.{line-fits, sound-judged, sound-well-formed}
-use Rattle.rod.specs.Reading.{policyValue, says, rodAnswer}
+use Rattle.rod.specs.Reading.{policyValue, says}
 use Rattle.peal.specs.Policies.{Policy, MinMax, Condition, policyAt}
 use Rattle.peal.specs.MasksDecide.{SignalsFit}
 use Rattle.arith.specs.Members.{Distinct}
