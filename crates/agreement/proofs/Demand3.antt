@@ -6,11 +6,12 @@ use mathlib.Core.Path.{_≡_, refl, sym, ap, subst, _∙_}
 use lib.ListN.{length}
 use borrow.Author.Tests.{le-leb}
 use Rattle.answers.specs.Answers.{Answer, result, refused, onResult}
-use Rattle.answers.proofs.Results.{no-refusal, result-is}
+use Rattle.answers.proofs.Results.{no-refusal, result-is, gone-on}
 use Rattle.arith.specs.Members.{Each}
 use Rattle.arith.specs.Trees.{leaf, join, postfix, mapTree, treeValue}
 use Rattle.arith.proofs.Tests.{clash}
 use Rattle.layout.specs.Records.{words, records}
+use Rattle.layout.specs.Judgement.{verdict}
 use Rattle.layout.specs.Nodes.{nodes, excluded}
 use Rattle.layout.proofs.ListedLaws.{nodes-listing, excluded-listing}
 use Rattle.rod.specs.Reading.{rodAnswer}
@@ -31,6 +32,7 @@ use Rattle.compiler.specs.declared.Compiled.{Compiled}
 use Rattle.compiler.specs.declared.Compiled.the-variants.{Records, Declined as CompileDeclined, NoRoom}
 use Rattle.agreement.specs.CompiledReading.{compiledReading}
 use Rattle.agreement.specs.CompiledAgreement.{CompiledAgreement, ReadingAgreement}
+use Rattle.agreement.specs.CompiledSound.{CompiledSound}
 use Rattle.agreement.specs.Demand3.{SaySame, bothYes, bothNo, StandsFor, MinimalListing, ListingFits, Demand3}
 use Rattle.agreement.proofs.Policies.{signals-fit}
 use Rattle.agreement.proofs.Conditions.{policy-in-range, tree}
@@ -49,6 +51,12 @@ compiled-agreement bytes number set n lent e =
       ap (λ (ws : List ℕ). rodAnswer ws set) (x .listing) ∙ book-agreement bytes number set (x .book) (x .condition) (x .ofBook) ∙ scored,
       scored,
     )
+
+pub compiled-sound : CompiledSound
+unfolding rodAnswer
+compiled-sound bytes number n lent e =
+    let (said, answered, scored) = compiled-agreement bytes number 0 n lent e in
+    gone-on (verdict (compiledListing n (leftBy bytes number lent))) _ said answered .1
 
 -- a refusal is passed up by both
 on-same : {A B : Type 0} (a : Answer A) (f g : A → Answer B) → ((x : A) → a ≡ result x → f x ≡ g x) → onResult a f ≡ onResult a g

@@ -57,8 +57,7 @@ pub record TraverseSays (bytes : List ℕ) (number : ℕ) (sets : List ℕ) (ret
   pub all : returned ≡ Answered (length sets)
   pub each : Forall₂ (AsLogger bytes number) sets left
 
--- the lines are exactly the masks of the policy's minimal non-empty sets, each once: in sum of those whose sum exceeds T, in mul whose product in
--- units is at most T divided by 100; in max and min of the single rules with V above T, or at most T
+-- the lines are exactly the masks of the minimal non-empty sets of the policy's rules, by the property `has` of its operator, each once
 pub record MinimalMasks (p : Policy) (t : ℤ) (lines : List ℕ) : Type 0 where
   pub exactly : (line : ℕ) → Among line lines ↔ Among line (map maskOf (minimalSets (has (p .operator) t) (p .rules)))
   pub once : Distinct lines
@@ -81,8 +80,7 @@ pub record MinimalListing (bytes : List ℕ) (number : ℕ) (listing : List ℕ)
   pub pairs : excluded (records listing) ≡ map pairMask (book .exclusions)
   pub oneByOne : Forall₂ (StandsFor (book .policies) condition) (postfix (condition .expression)) (nodes (records listing))
 
--- compiling returned records, not a refusal; on the compiled listing, the first words as compiling left them, rod and logger say the
--- same of every signal set, one by one or in a traverse with as many answers as sets; and its lines are the minimal non-empty sets
+-- compiling refused nothing; by what it left, rod and logger say the same of every set, also in a traverse; its lines are the minimal sets
 pub record Agreed (bytes : List ℕ) (number : ℕ) (left : List ℕ) (answer : Compiled) : Type 0 where
   pub count : ℕ
   pub compiles : answer ≡ Records count

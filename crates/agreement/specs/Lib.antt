@@ -6,5 +6,6 @@ pub mod CompiledReading
 pub mod Meaning
 pub mod Demand3
 pub mod CompiledAgreement
+pub mod CompiledSound
 pub mod OldListings
 pub mod Both

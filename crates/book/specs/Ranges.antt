@@ -71,6 +71,10 @@ pub record ConditionKept (cells : List ℤ) (n : ℕ) : Type 0 where
   pub range : BookInRange book
   pub asked : conditionAt (book .conditions) n ≡ result condition
 
+-- so it is for each book in range, and condition of it, that the cells may be of
+abbrev pub ForAsked : List ℤ → ℕ → (Book → Condition → Type 0) → Type 0
+ForAsked cells n P = (h : ConditionKept cells n) → P (h .book) (h .condition)
+
 -- and rule i, exclusion i, code i is one of these
 abbrev pub RuleKept : List ℤ → ℕ → ℕ → Type 0
 RuleKept cells k i = (h : PolicyKept cells k) × (i < length (h .policy .rules))

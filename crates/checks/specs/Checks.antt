@@ -1,5 +1,4 @@
--- The choice check and the comparison (document 01, "The office's checks"; change request 1 for the sets that they walk, change
--- request 5 for how many of them the choice check judges).
+-- The choice check and the comparison (document 01, "The office's checks"; change request 1: the sets walked, 5: how many are judged).
 use Prim.Native.Nat.{ℕ, zero, suc, _+_, max}
 use mathlib.Core.Bool.{Bool, true, false, not, cond, Bool·beq, _&&_}
 use mathlib.Core.List.{List}

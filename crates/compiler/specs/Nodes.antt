@@ -15,14 +15,10 @@ use Rattle.layout.specs.Writing.{putRecords}
 use Rattle.peal.specs.Policies.{MinMax, smaller, Condition, Book, policyAt}
 use Rattle.translation.specs.Translation.{joinOf, listed, translated, pairMask, listingRecords}
 use Rattle.text.specs.Codes.{codeOf, codesOf}
-use Rattle.book.specs.Ranges.{ExclusionsKept, ConditionKept}
+use Rattle.book.specs.Ranges.{ExclusionsKept, ConditionKept, ForAsked}
 use Rattle.book.specs.Cells.{ForExclusions}
 use Rattle.compiler.specs.Compiling.{fitting, returned, lentAfter}
 use Rattle.compiler.specs.Room.{RoomFor}
-
--- so it is for the book and the condition n that the cells may be of
-abbrev pub ForCondition : List ℤ → ℕ → (Book → Condition → Type 0) → Type 0
-ForCondition cells n P = (h : ConditionKept cells n) → P (h .book) (h .condition)
 
 -- ---- the nodes of a condition
 
@@ -54,7 +50,7 @@ NodeKept cells n i = (h : ConditionKept cells n) × (i < length (codesOf (h .con
 -- it has so many lines
 pub record NodeCounted (cells : List ℤ) (n i count : ℕ) : Type 0 where
   pub kept : NodeKept cells n i
-  pub lines : ForCondition cells n (λ b c. count ≡ linesIn (nodeAt b c i))
+  pub lines : ForAsked cells n (λ b c. count ≡ linesIn (nodeAt b c i))
 
 -- so it is for the join that the code may be of
 abbrev pub ForJoin : ℕ → (MinMax → Type 0) → Type 0
@@ -74,7 +70,7 @@ CountsKept cells n counts =
 -- the listing of condition n has so many records, and its nodes so many lines
 pub record RecordsCounted (cells : List ℤ) (n records : ℕ) (counts : List ℕ) : Type 0 where
   pub small : records < 2 ^ 31
-  pub listing : ForCondition cells n (λ b c. records ≡ length (listingRecords b c))
+  pub listing : ForAsked cells n (λ b c. records ≡ length (listingRecords b c))
   pub nodes : CountsKept cells n counts
 
 -- ---- written
@@ -101,7 +97,7 @@ NodesFit cells n first words = (h : ConditionKept cells n) × RoomFor first (len
 
 -- their records are put into the words
 abbrev pub NodesPut : List ℤ → (n first : ℕ) → (before after : List ℕ) → Type 0
-NodesPut cells n first before after = ForCondition cells n (λ b c. after ≡ putRecords before first (nodeRecords first (nodesOf b c)))
+NodesPut cells n first before after = ForAsked cells n (λ b c. after ≡ putRecords before first (nodeRecords first (nodesOf b c)))
 
 -- ---- the exclusions
 
@@ -121,8 +117,8 @@ ExclusionsPut cells before after = ForExclusions cells (λ xs. after ≡ putReco
 
 -- what is returned
 abbrev pub ConditionReturns : List ℤ → ℕ → List ℕ → Answer ℕ → Type 0
-ConditionReturns cells n lent answer = ForCondition cells n (λ b c. answer ≡ returned (fitting (length lent) (listingRecords b c)))
+ConditionReturns cells n lent answer = ForAsked cells n (λ b c. answer ≡ returned (fitting (length lent) (listingRecords b c)))
 
 -- what is left in the words
 abbrev pub ConditionLeaves : List ℤ → ℕ → (lent left : List ℕ) → Type 0
-ConditionLeaves cells n lent left = ForCondition cells n (λ b c. left ≡ lentAfter lent (fitting (length lent) (listingRecords b c)))
+ConditionLeaves cells n lent left = ForAsked cells n (λ b c. left ≡ lentAfter lent (fitting (length lent) (listingRecords b c)))

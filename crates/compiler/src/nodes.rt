@@ -9,10 +9,10 @@ ghost use Rattle.arith.specs.Trees.{value, joining};
 ghost use Rattle.layout.specs.Records.{joinKind, policyKind};
 ghost use Rattle.peal.specs.Score.{scaled, meets};
 ghost use Rattle.translation.specs.Translation.{joinOf, turned, listed};
-ghost use Rattle.book.specs.Ranges.{ConditionKept};
+ghost use Rattle.book.specs.Ranges.{ConditionKept, ForAsked};
 ghost use Rattle.compiler.specs.Searching.{LinesKept, ForLines};
 ghost use Rattle.compiler.specs.Room.{RoomFor};
-ghost use Rattle.compiler.specs.Nodes.{ForJoin, ForCondition, NodeKept, NodeCounted, linesIn, nodeAt, follows, CountsUpTo, CountsKept, RecordsCounted, NodePut, NodesFit, NodesPut};
+ghost use Rattle.compiler.specs.Nodes.{ForJoin, NodeKept, NodeCounted, linesIn, nodeAt, follows, CountsUpTo, CountsKept, RecordsCounted, NodePut, NodesFit, NodesPut};
 
 // A condition has at most so many nodes.
 pub const NODE_COUNT: usize = 31;
@@ -88,7 +88,7 @@ fn number_if(there: bool, number: usize) -> u32
 // How many lines node i of condition n has.
 fn node_lines(cells: &book::Cells, n: usize, i: usize) -> usize
     requires { ⌜ NodeKept (now cells) n i ⌝ }
-    ensures { λ r. ⌜ ForCondition (now (cells .entry)) n (λ b c. r ≡ linesIn (nodeAt b c i)) ⌝ }
+    ensures { λ r. ⌜ ForAsked (now (cells .entry)) n (λ b c. r ≡ linesIn (nodeAt b c i)) ⌝ }
 {
     let code = book::code_at(cells, n, i);
     if code < POLICY_CODE {
@@ -102,7 +102,7 @@ fn node_lines(cells: &book::Cells, n: usize, i: usize) -> usize
 // The same, from how many lines the nodes before it have: a policy that was mentioned before is not searched again.
 fn next_lines(cells: &book::Cells, n: usize, lines: &LineCounts, i: usize) -> usize
     requires { ⌜ NodeKept (now cells) n i × CountsUpTo (now cells) n (now lines) i ⌝ }
-    ensures { λ r. ⌜ ForCondition (now (cells .entry)) n (λ b c. r ≡ linesIn (nodeAt b c i)) ⌝ }
+    ensures { λ r. ⌜ ForAsked (now (cells .entry)) n (λ b c. r ≡ linesIn (nodeAt b c i)) ⌝ }
 {
     let code = book::code_at(cells, n, i);
     let mut j = 0;
@@ -176,7 +176,7 @@ fn put_policy(
 // Node i of condition n, which has so many lines, from record `at` on.
 fn put_node(cells: &book::Cells, n: usize, i: usize, count: usize, words: &mut [u32], at: usize)
     requires { ⌜ NodeCounted (now cells) n i count × RoomFor at (1 + count) (now words) ⌝ }
-    ensures { λ r. ⌜ ForCondition (now (cells .entry)) n
+    ensures { λ r. ⌜ ForAsked (now (cells .entry)) n
         (λ b c. NodePut at (follows c i) (nodeAt b c i) (now (words .entry)) (now (words .exit))) ⌝ }
 {
     let sense = book::sense_at(cells, n);

@@ -1,5 +1,4 @@
--- The layout of a listing, and the verdict on the words handed in (document 01, "Record n has", "Sound also means", refusals 9 and 10;
--- change request 1 for an exclusion).
+-- The layout of a listing, and the verdict on words (document 01, "Record n has", "Sound also means", refusals 9 and 10; change request 1).
 use Prim.Native.Nat.{ℕ, _+_, _-_, _%_}
 use mathlib.Core.Bool.{Bool, false, not, cond, _&&_}
 use mathlib.Core.List.{List, [], _∷_}
@@ -53,8 +52,7 @@ keepsLayout n so exclusion r after =
     eqb (so .policies) 0 && leb n 16 && isPair (r .mask) && eqb (r .lines) 0 && eqb (r .next) (n + 1) && leb 1 (length after)
 keepsLayout n so unknown r after = false
 
--- what stands above the next record: a policy adds a value and may have lines; a join takes two values and leaves one; an
--- exclusion adds none and has no lines
+-- what stands above the next record: a policy adds a value and may have lines; a join takes two values and leaves one
 unfoldable pub soFarAfter : SoFar → Kind → Record → SoFar
 soFarAfter so (policy q t) r = record { policyMask = some (r .mask); values = so .values + 1; policies = so .policies + 1 }
 soFarAfter so line r = so

@@ -20,3 +20,4 @@ pub mod MinimalSetsDecide
 pub mod OrderDoesNotMatter
 pub mod LinesDecide
 pub mod MasksDecide
+pub mod EqualityIsPublished

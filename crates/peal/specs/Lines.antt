@@ -12,8 +12,7 @@ use Rattle.peal.specs.Ranking.{ranked}
 use Rattle.peal.specs.declared.Operator.{Operator}
 use Rattle.peal.specs.declared.Operator.the-variants.{Min, Max, Sum, Mul}
 
--- the non-empty sets inside X: minimal sets are sought among these only.
--- Of rules in falling rank they stand in falling order of the sum of 2 to the rank (proofs/SetOrder.antt).
+-- the non-empty sets inside X, among which minimal sets are sought; of ranked rules in falling order of the sum of 2 to the rank
 unfoldable pub setsInside : List Rule → List (List Rule)
 setsInside X = keep nonEmpty (subsets X)
 

@@ -7,7 +7,6 @@ use lib.IntN.{ℤ}
 use lib.ListN.{length, replicate}
 use Rattle.arith.specs.Trees.{Node, value, joining, postfix, run}
 use Rattle.answers.specs.Answers.{result}
-use Rattle.answers.proofs.Results.{gone-on}
 use Rattle.signals.proofs.SetOfLaws.{inside-overlap}
 use Rattle.layout.specs.Records.{records}
 use Rattle.layout.specs.Judgement.{verdict, noRecord}
@@ -15,7 +14,7 @@ use Rattle.layout.specs.Nodes.{ListedPolicy, nodes}
 use Rattle.layout.specs.WellFormed.{PolicyFits, WellFormed}
 use Rattle.layout.proofs.SoundNodes.{line-fits, sound-well-formed}
 use Rattle.layout.proofs.KeptLaws.{sound-judged}
-use Rattle.rod.specs.Reading.{policyValue, says, rodAnswer}
+use Rattle.rod.specs.Reading.{policyValue, says}
 use Rattle.peal.specs.Policies.{Policy, MinMax, Condition, policyAt}
 use Rattle.peal.specs.MasksDecide.{SignalsFit}
 use Rattle.arith.specs.Members.{Distinct}
@@ -26,7 +25,7 @@ use Rattle.compiler.specs.Meaning.{CompilingRan}
 use Rattle.compiler.specs.declared.Compiled.the-variants.{Records}
 use Rattle.agreement.specs.Demand3.{MinimalMasks, StandsFor, MinimalListing}
 use Rattle.agreement.proofs.Conditions.{policy-in-range}
-use Rattle.agreement.proofs.Demand3.{compiled-agreement, minimal-listing}
+use Rattle.agreement.proofs.Demand3.{compiled-sound, minimal-listing}
 use Rattle.agreement.proofs.LineMasks.{minimal-mask-inside}
 use Rattle.agreement.proofs.Policies.{signals-fit}
 use Rattle.same_lines.specs.SameLines.{OnePolicy}
@@ -65,12 +64,8 @@ module _ (listing : List ℕ) (p : ListedPolicy) (h : OnePolicy listing p) where
   left-there : listing ≡ compiledListing (h .count) (leftBy (h .bytes) (h .number) (h .lent))
   left-there = h .listed ∙ ap (compiledListing (h .count)) (h .compiling .leaving)
 
-  -- the rod does not refuse it
   is-sound : verdict listing ≡ result tt
-  unfolding rodAnswer
-  is-sound =
-      let (said, answered, scored) = compiled-agreement (h .bytes) (h .number) 0 (h .count) (h .lent) ran in
-      gone-on (verdict listing) _ said (ap (λ (ws : List ℕ). rodAnswer ws 0) left-there ∙ answered) .1
+  is-sound = ap verdict left-there ∙ compiled-sound (h .bytes) (h .number) (h .count) (h .lent) ran
 
   policy-fits : PolicyFits p
   unfolding noRecord

@@ -6,15 +6,10 @@ use lib.IntN.{ℤ, pos}
 use lib.ListN.{length, getD, drop}
 use Rattle.arith.specs.Trees.{postfix, run}
 use Rattle.arith.specs.Leaves.{LeavesOne}
-use Rattle.peal.specs.Policies.{Policy, Expression, Condition, policyAt}
+use Rattle.peal.specs.Policies.{Policy, Expression, policyAt}
 use Rattle.peal.specs.Score.{ofTwo, policyScore, score}
-use Rattle.book.specs.Ranges.{ConditionKept}
 use Rattle.score.specs.Pairs.{Is}
 use Rattle.score.specs.declared.exact.Exact.{Exact}
-
--- so it is for the policies and the condition of each book in range that the cells may be of
-abbrev pub ForCondition : List ℤ → ℕ → (List Policy → Condition → Type 0) → Type 0
-ForCondition cells n P = (h : ConditionKept cells n) → P (h .book .policies) (h .condition)
 
 -- a cell with no score
 unfoldable pub noScore : Exact

@@ -14,10 +14,6 @@ use Rattle.score.specs.declared.policies.Scored.{Scored}
 use Rattle.score.specs.declared.policies.Scored.the-variants.{Present as Counted, Absent}
 use Rattle.score.specs.declared.policies.Present.{Present}
 
--- so it is for each policy that the cells of policy k may be of
-abbrev pub ForPolicy : List ℤ → ℕ → (Policy → Type 0) → Type 0
-ForPolicy cells k P = (p : Policy) → PolicyCells cells k p → P p
-
 -- what a rule adds on a signal set
 unfoldable pub ruleScore : ℕ → Rule → Option ℤ
 ruleScore set r = if present set (r .signal) then some (r .score)

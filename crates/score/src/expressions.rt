@@ -3,15 +3,14 @@ use crate::exact::Exact;
 use crate::exact::chosen;
 use crate::exact::whole;
 use crate::policies::policy_score;
-ghost use Rattle.book.specs.Ranges.{ConditionKept};
+ghost use Rattle.book.specs.Ranges.{ConditionKept, ForAsked};
 ghost use Rattle.peal.specs.Score.{score};
 ghost use Rattle.score.specs.Pairs.{Is};
-ghost use Rattle.score.specs.ExpressionScores.{ForCondition};
 
 // The score of condition n. The first `height` cells of `scores` wait, the last of them is joined first.
 pub fn expression_score(cells: &book::Cells, n: usize, set: u16) -> Exact
     requires { ⌜ ConditionKept (now cells) n ⌝ }
-    ensures { λ r. ⌜ ForCondition (now (cells .entry)) n (λ ps c. Is r (score ps set (c .expression))) ⌝ }
+    ensures { λ r. ⌜ ForAsked (now (cells .entry)) n (λ b c. Is r (score (b .policies) set (c .expression))) ⌝ }
 {
     let all = book::length_at(cells, n);
     let zero = whole(0);

@@ -10,9 +10,8 @@ use exact::meets;
 use expressions::expression_score;
 ghost use mathlib.Core.Path.{_≡_};
 ghost use Rattle.peal.specs.Score.{decision};
-ghost use Rattle.book.specs.Ranges.{ConditionKept};
+ghost use Rattle.book.specs.Ranges.{ConditionKept, ForAsked};
 ghost use Rattle.score.specs.Decisions.{scoredAnswer};
-ghost use Rattle.score.specs.ExpressionScores.{ForCondition};
 ghost use Rattle.score.specs.Shown.{shownAnswer};
 ghost use Rattle.score.specs.Meaning.{scoreMeaning, shownMeaning};
 
@@ -26,7 +25,7 @@ pub enum Decision {
 // Condition n of a read book is met on the set.
 fn is_met(cells: &book::Cells, n: usize, set: u16) -> bool
     requires { ⌜ ConditionKept (now cells) n ⌝ }
-    ensures { λ r. ⌜ ForCondition (now (cells .entry)) n (λ ps c. r ≡ decision ps c set) ⌝ }
+    ensures { λ r. ⌜ ForAsked (now (cells .entry)) n (λ b c. r ≡ decision (b .policies) c set) ⌝ }
 {
     let sense = book::sense_at(cells, n);
     let threshold = book::threshold_at(cells, n);

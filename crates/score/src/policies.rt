@@ -8,9 +8,10 @@ ghost use lib.ListN.{length, getD};
 ghost use lib.Signed.{mag};
 ghost use Rattle.peal.specs.Standins.{noRule};
 ghost use Rattle.peal.specs.Score.{presentRules, policyScore};
+ghost use Rattle.book.specs.Cells.{ForPolicy};
 ghost use Rattle.book.specs.Ranges.{PolicyKept};
 ghost use Rattle.score.specs.Pairs.{Is};
-ghost use Rattle.score.specs.PolicyScores.{ForPolicy, ruleScore, scoredMeaning, presentOf, withScore};
+ghost use Rattle.score.specs.PolicyScores.{ruleScore, scoredMeaning, presentOf, withScore};
 
 // What a rule adds on a signal set.
 enum Scored {

@@ -17,7 +17,8 @@ use Rattle.peal.specs.declared.Operator.{Operator}
 use Rattle.peal.specs.declared.Operator.the-variants.{Min, Max, Sum, Mul}
 use Rattle.peal.specs.declared.Sense.{Sense}
 use Rattle.peal.specs.declared.Sense.the-variants.{Above, AtMost}
-use Rattle.peal.proofs.Equality.{equalMeets, equal-meets}
+use Rattle.peal.specs.EqualityIsPublished.{equalMeets}
+use Rattle.peal.proofs.Equality.{equality-is-published}
 use Rattle.peal.proofs.TwoLaws.{not-ltZ, larger-above, smaller-at-most}
 
 -- the order in parts is the order in hundredths
@@ -90,4 +91,4 @@ quiet-is-meeting p s t = refl
 -- a default that equals T is quiet on the published side
 pub quiet-at-threshold : (p : Policy) (s : Sense) → quiet s (p .default) p ≡ equalMeets s
 unfolding quiet
-quiet-at-threshold p s = equal-meets s (p .default)
+quiet-at-threshold p s = equality-is-published .ofScores s (p .default)
