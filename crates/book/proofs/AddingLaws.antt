@@ -24,7 +24,6 @@ use Rattle.book.specs.Acceptance.{BookSoFar, lastPolicy, within, default
 use Rattle.book.specs.Books.{acceptForm, readLine}
 use Rattle.book.specs.Cells.{BookCells}
 use Rattle.book.specs.Meaning.{reasonNumber}
-use Rattle.book.specs.Ranges.{ExclusionInRange}
 use Rattle.book.specs.SoFar.{soFarOf, Bounded}
 use Rattle.book.specs.Judged.{after, Judged}
 use Rattle.book.specs.Adding.{StepIs}

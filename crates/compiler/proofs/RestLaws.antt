@@ -4,7 +4,7 @@ use mathlib.Core.List.{List, [], _∷_}
 use mathlib.Core.Path.{_≡_, refl, sym, ap, subst, _∙_}
 use native.Mathlib.Nat.{le-trans, pow-le-pow-right}
 use native.Mathlib.Omega.{arith}
-use lib.IntN.{ℤ}
+use lib.IntN.{ℤ, pos}
 use lib.ListN.{length, getD, drop, length-drop, drop-of-length-le}
 use lib.Seq.{drop-cons}
 use lib.Signed.{mag}
@@ -20,8 +20,9 @@ use Rattle.peal.specs.declared.Operator.the-variants.{Min, Max, Sum, Mul}
 use Rattle.peal.proofs.HavingLaws.{product-natural}
 use Rattle.peal.proofs.TwoLaws.{one-of-two}
 use Rattle.book.specs.Acceptance.{within, scoreInRange}
+use Rattle.book.specs.Cells.{storedPolicy}
 use Rattle.book.specs.declared.cells.Policy.{Policy as StoredPolicy}
-use Rattle.book.proofs.StoredRules.{count-is}
+use Rattle.book.proofs.StoredRules.{count-is, signal-at, score-at}
 use Rattle.book.proofs.ScoreSizes.{score-mag, InScore, InRange, Room}
 use Rattle.compiler.specs.Worth.{initial, worth}
 use Rattle.compiler.specs.Planning.{restOf, nextRule, RulesInRange, RulesKept}
@@ -109,3 +110,16 @@ next-signal q k some inside h = each-get (λ (r : Rule). r .signal < 16) (q .rul
 
 pub kept-room : {p : StoredPolicy} → RulesKept p → p .count ≤ 16
 kept-room {p} h = omega (arith, count-is p (h .policy) (h .held), h .range .few)
+
+-- ---- the first of the k rules of lowest rank, as a stored policy has it
+
+module _ (p : StoredPolicy) (q : Policy) (e : p ≡ storedPolicy q) (k : ℕ) (some : 0 < k) (inside : k ≤ p .count) where
+  stored-next : getD (q .rules) (p .count - k) noRule ≡ nextRule q k
+  unfolding nextRule
+  stored-next = ap (λ (n : ℕ). getD (q .rules) (n - k) noRule) (count-is p q e)
+
+  pub stored-signal : getD (p .signals) (p .count - k) 0 ≡ nextRule q k .signal
+  stored-signal = signal-at p q e (p .count - k) (omega arith) ∙ ap (λ (r : Rule). r .signal) stored-next
+
+  pub stored-score : getD (p .scores) (p .count - k) (pos 0) ≡ nextRule q k .score
+  stored-score = score-at p q e (p .count - k) (omega arith) ∙ ap (λ (r : Rule). r .score) stored-next

@@ -1,19 +1,23 @@
 -- The rows of a plan, written one after the other.
-use Prim.Native.Nat.{ℕ, _+_, _*_, _≤_, _<_}
+use Prim.Native.Nat.{ℕ, _+_, _*_, _^_, _≤_, _<_}
 use mathlib.Core.List.{List, [], _∷_}
 use mathlib.Core.Logic.{⊎-elim}
-use mathlib.Core.Path.{_≡_, refl, sym, subst, _∙_}
+use mathlib.Core.Path.{_≡_, refl, sym, ap, subst, _∙_}
 use native.Mathlib.Nat.{add-zero}
 use native.Mathlib.Omega.{arith}
 use lib.IntN.{ℤ, pos}
-use lib.ListN.{length, getD}
+use lib.ListN.{length, getD, replicate}
 use lib.Seq.{length-sets}
+use lib.Signed.{mag}
 use Rattle.arith.proofs.Order.{le-or-lt}
 use Rattle.arith.proofs.Rows.{before-row, in-row}
 use Rattle.signals.specs.Sets.{setOf}
 use Rattle.peal.specs.Policies.{Policy}
-use Rattle.compiler.specs.Worth.{worth, limitOf}
-use Rattle.compiler.specs.Planning.{restOf, nextRule, withRow, Row}
+use Rattle.peal.specs.Combining.{combinedOf}
+use Rattle.peal.specs.declared.Operator.{Operator}
+use Rattle.compiler.specs.Worth.{initial, worth, limitOf, NextLimit}
+use Rattle.compiler.specs.Planning.{restOf, nextRule, RulesInRange, withRow, Row}
+use Rattle.compiler.proofs.RestLaws.{worth-small, rest-initial, rest-next, range-rest}
 
 module _ (plan : List ℤ) (k : ℕ) (limit rest score bit : ℤ) where
   abbrev row : List ℤ
@@ -22,7 +26,7 @@ module _ (plan : List ℤ) (k : ℕ) (limit rest score bit : ℤ) where
   abbrev later : List ℤ
   later = withRow plan k limit rest score bit
 
-  pub row-length : length later ≡ length plan
+  row-length : length later ≡ length plan
   unfolding withRow
   row-length = length-sets plan (k * 4) row
 
@@ -58,7 +62,55 @@ module _ (plan : List ℤ) (k : ℕ) (limit rest score bit : ℤ) where
           }
 
       -- one row more in the plan
-      pub rows-more : {after : List ℤ} → after ≡ later → ((j : ℕ) → j < k → Row plan q t j) → (j : ℕ) → j ≤ k → Row after q t j
+      rows-more : {after : List ℤ} → after ≡ later → ((j : ℕ) → j < k → Row plan q t j) → (j : ℕ) → j ≤ k → Row after q t j
       rows-more e rows j h =
           subst (λ (cells : List ℤ). Row cells q t j) (sym e)
           (⊎-elim (λ (m : k ≤ j). let s : k ≡ j = omega arith in subst (Row later q t) s here) (λ m. kept j m (rows j m)) (le-or-lt k j))
+
+-- ---- from row to row
+
+-- the rows up to k are written, the last of them with this limit and rest
+pub record PlannedTo (q : Policy) (t limit rest : ℤ) (plan : List ℤ) (k : ℕ) : Type 0 where
+  pub size : length plan ≡ 68
+  pub limited : limit ≡ limitOf (q .operator) t k
+  pub rested : rest ≡ worth (q .operator) (restOf k (q .rules))
+  pub rows : (j : ℕ) → j ≤ k → Row plan q t j
+
+module _ {q : Policy} {t : ℤ} {o : Operator} (same : o ≡ q .operator) where
+  pub planned-start : {limit rest : ℤ} {plan : List ℤ} → limit ≡ limitOf o t 0 → rest ≡ initial o → plan ≡ withRow (replicate 68 (pos 0)) 0 limit rest (pos 0) (pos 0)
+      → PlannedTo q t limit rest plan 0
+  planned-start {limit} {rest} f g e =
+      let blank = replicate 68 (pos 0) in
+      let limited = f ∙ ap (λ (x : Operator). limitOf x t 0) same in
+      let rested = g ∙ ap initial same ∙ rest-initial (q .operator) (q .rules) in
+      record {
+        size = ap length e ∙ row-length blank 0 limit rest (pos 0) (pos 0);
+        limited = limited;
+        rested = rested;
+        rows =
+            rows-more blank 0 limit rest (pos 0) (pos 0) q t (omega arith) limited rested
+            (λ m. absurd (omega arith)) (λ m. absurd (omega arith)) e (λ i m. absurd (omega arith));
+      }
+
+  module _ {limit rest : ℤ} {plan : List ℤ} {k : ℕ} (h : PlannedTo q t limit rest plan k) (inside : k < length (q .rules)) {score : ℤ} (score-is : score ≡ nextRule q (k + 1) .score) where
+    more-worth : combinedOf o score rest ≡ worth (q .operator) (restOf (k + 1) (q .rules))
+    unfolding nextRule
+    more-worth = ap (λ (x : Operator). combinedOf x score rest) same ∙ rest-next (q .operator) (q .rules) k inside score rest score-is (h .rested)
+
+    pub more-small : RulesInRange (q .operator) (q .rules) → mag (combinedOf o score rest) ≤ 10 ^ 16
+    more-small r =
+        subst (λ (z : ℤ). mag z ≤ 10 ^ 16) (sym more-worth)
+        (worth-small (q .operator) (restOf (k + 1) (q .rules)) (range-rest (q .operator) (q .rules) (k + 1) r))
+
+    pub planned-turn : length (q .rules) ≤ 16 → {next more bit : ℤ} {later : List ℤ} → NextLimit o limit next → more ≡ combinedOf o score rest
+        → bit ≡ pos (setOf (nextRule q (k + 1) .signal ∷ [])) → later ≡ withRow plan (k + 1) next more score bit → PlannedTo q t next more later (k + 1)
+    planned-turn few {next} {more} {bit} f g bit-is e =
+        let limited = f t k (h .limited ∙ ap (λ (x : Operator). limitOf x t k) (sym same)) ∙ ap (λ (x : Operator). limitOf x t (k + 1)) same in
+        record {
+          size = ap length e ∙ row-length plan (k + 1) next more score bit ∙ h .size;
+          limited = limited;
+          rested = g ∙ more-worth;
+          rows =
+              rows-more plan (k + 1) next more score bit q t (omega (arith, h .size)) limited (g ∙ more-worth) (λ m. score-is) (λ m. bit-is) e
+              (λ i m. h .rows i (omega arith));
+        }

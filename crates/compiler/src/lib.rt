@@ -10,7 +10,6 @@ use nodes::NODE_COUNT;
 use nodes::count_records;
 use nodes::put_nodes;
 ghost use mathlib.Core.Path.{_≡_};
-ghost use lib.ListN.{length};
 ghost use Rattle.book.specs.Ranges.{ConditionKept};
 ghost use Rattle.compiler.specs.Meaning.{compiledMeaning, CompilingRan};
 ghost use Rattle.compiler.specs.Nodes.{ConditionReturns, ConditionLeaves};

@@ -9,7 +9,6 @@ use Rattle.signals.specs.Sets.{present}
 use Rattle.peal.specs.Policies.{Rule, Policy}
 use Rattle.peal.specs.Combining.{combinedOf}
 use Rattle.peal.specs.declared.Operator.{Operator}
-use Rattle.book.specs.Cells.{PolicyCells}
 use Rattle.score.specs.declared.policies.Scored.{Scored}
 use Rattle.score.specs.declared.policies.Scored.the-variants.{Present as Counted, Absent}
 use Rattle.score.specs.declared.policies.Present.{Present}

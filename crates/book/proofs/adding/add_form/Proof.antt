@@ -1,5 +1,5 @@
 -- `book::adding::add_form`: each form by the function that adds it; a condition without an expression is refused.
-use mathlib.Core.Bool.{Bool, true}
+use mathlib.Core.Bool.{Bool}
 use mathlib.Core.Option.{some, none}
 use mathlib.Core.Path.{_≡_, refl, ap, subst, _∙_}
 use lib.IntN.{ℤ}

@@ -1,7 +1,6 @@
 -- `compiler::exclusions::pair_mask`: the bits of the two signals.
 use Prim.Native.Nat.{_<_}
 use mathlib.Core.List.{[], _∷_}
-use mathlib.Core.Path.{refl}
 use native.Mathlib.Omega.{arith}
 use borrow.Author.Needs.{needs}
 use Rattle.signals.proofs.SetOfLaws.{set-below}
