@@ -17,6 +17,10 @@ use Rattle.book.specs.Cells.{storedPolicy}
 use Rattle.book.specs.declared.cells.Policy.{Policy as StoredPolicy}
 use Rattle.compiler.specs.Worth.{worth, limitOf}
 
+-- a policy has at most so many rules
+abbrev pub mostRules : ℕ
+mostRules = 16
+
 -- T is in range
 abbrev pub ThresholdFits : ℤ → Type 0
 ThresholdFits t = thresholdInRange t ≡ true
@@ -33,7 +37,7 @@ nextRule q k = getD (q .rules) (length (q .rules) - k) noRule
 pub record RulesInRange (o : Operator) (rules : List Rule) : Type 0 where
   pub signals : Each (λ (r : Rule). r .signal < 16) rules
   pub scores : Each (λ (r : Rule). scoreInRange o (r .score) ≡ true) rules
-  pub few : length rules ≤ 16
+  pub few : length rules ≤ mostRules
   pub room : o ≡ Mul → length rules ≤ 8
 
 -- the stored policy is that of one whose rules are in range

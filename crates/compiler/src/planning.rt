@@ -5,9 +5,12 @@ ghost use mathlib.Core.Path.{_≡_};
 ghost use Prim.Native.Nat.{_^_, _≤_};
 ghost use lib.Signed.{mag};
 ghost use Rattle.compiler.specs.Worth.{initial as initialOf, clamped as clampedOf, limitOf, NextLimit};
-ghost use Rattle.compiler.specs.Planning.{ThresholdFits, RulesKept, withRow, PlanOf};
+ghost use Rattle.compiler.specs.Planning.{mostRules, ThresholdFits, RulesKept, withRow, PlanOf};
 
-// The plan has a row for each number k of rules, from none to sixteen. First stands the limit of the sets of k rules;
+// A policy has at most so many rules.
+const MOST_RULES: usize = 16;
+
+// The plan has a row of four cells for each number k of rules, none too. First stands the limit of the sets of k rules;
 // after it, at these places, the operator over the k rules of lowest rank, and the score and the bit of the first of these.
 pub const ROW: usize = 4;
 
@@ -17,7 +20,7 @@ pub const SCORE: usize = 2;
 
 pub const BIT: usize = 3;
 
-const PLAN_CELLS: usize = 68;
+const PLAN_CELLS: usize = (MOST_RULES + 1) * ROW;
 
 pub type Plan = [i64; PLAN_CELLS];
 
@@ -82,7 +85,7 @@ pub fn initial(operator: peal::Operator) -> i64
 
 // The row for k rules.
 fn put_row(plan: &mut Plan, k: usize, limit: i64, rest: i64, score: i64, bit: i64)
-    requires { ⌜ k ≤ 16 ⌝ }
+    requires { ⌜ k ≤ mostRules ⌝ }
     ensures { λ r. ⌜ now (plan .exit) ≡ withRow (now (plan .entry)) k limit rest score bit ⌝ }
 {
     let row = k * ROW;

@@ -17,7 +17,7 @@ ghost use lib.Signed.{mag};
 ghost use Rattle.peal.specs.Combining.{combinedOf};
 ghost use Rattle.book.specs.Ranges.{PolicyKept};
 ghost use Rattle.compiler.specs.Worth.{reachedOf};
-ghost use Rattle.compiler.specs.Planning.{ThresholdFits, scoreIn, bitIn};
+ghost use Rattle.compiler.specs.Planning.{mostRules, ThresholdFits, scoreIn, bitIn};
 ghost use Rattle.compiler.specs.Searching.{having, allAt, found, CanSearch, ForPoints, BitFits, CanPut, FoundPut, OfLines, LinesKept, LinesPut};
 ghost use Rattle.compiler.specs.Room.{RoomFor};
 
@@ -55,7 +55,7 @@ fn has_reached(operator: peal::Operator, plan: &Plan, count: usize, value: i64) 
 
 // What the rules taken are worth with the first of the rules still to come.
 fn next_value(operator: peal::Operator, plan: &Plan, value: i64, left: usize) -> i64
-    requires { ⌜ (left ≤ 16) × (mag (combinedOf operator value (scoreIn (now plan) left)) ≤ 10 ^ 16) ⌝ }
+    requires { ⌜ (left ≤ mostRules) × (mag (combinedOf operator value (scoreIn (now plan) left)) ≤ 10 ^ 16) ⌝ }
     ensures { λ r. ⌜ r ≡ combinedOf operator value (scoreIn (now (plan .entry)) left) ⌝ }
 {
     peal::combined(operator, value, plan[left * ROW + SCORE])
@@ -63,7 +63,7 @@ fn next_value(operator: peal::Operator, plan: &Plan, value: i64, left: usize) ->
 
 // The mask of the rules taken with the first of the rules still to come.
 fn next_mask(plan: &Plan, mask: u32, left: usize) -> u32
-    requires { ⌜ (left ≤ 16) × BitFits mask (bitIn (now plan) left) ⌝ }
+    requires { ⌜ (left ≤ mostRules) × BitFits mask (bitIn (now plan) left) ⌝ }
     ensures { λ r. ⌜ r ≡ mask + natAbs (bitIn (now (plan .entry)) left) ⌝ }
 {
     mask + plan[left * ROW + BIT] as u32
@@ -144,7 +144,8 @@ pub fn count_lines(cells: &book::Cells, k: usize, threshold: i32) -> usize
     let operator = policy.operator;
     let rules = policy.count;
     let plan = planned(policy, threshold);
-    count_found(operator, &plan, 0, initial(operator), rules)
+    let value = initial(operator);
+    count_found(operator, &plan, 0, value, rules)
 }
 
 // The records of these lines, which are so many, from record `at` on.
@@ -163,15 +164,7 @@ pub fn put_lines(
     let operator = policy.operator;
     let rules = policy.count;
     let plan = planned(policy, threshold);
-    search(
-        operator,
-        &plan,
-        0,
-        0,
-        initial(operator),
-        rules,
-        words,
-        at,
-        at + count - 1,
-    );
+    let value = initial(operator);
+    let last = at + count - 1;
+    search(operator, &plan, 0, 0, value, rules, words, at, last);
 }

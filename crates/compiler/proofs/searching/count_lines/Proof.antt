@@ -41,23 +41,23 @@ initial-requires : tie.Need-initial-requires
 initial-requires c κs = tt
 
 -- the search begins
-begins : (c : tie.After-initial) → let r = c .before .before .before in let s = r .before .before in
+begins : (c : tie.After-initial) → let r = c .before .before in let s = r .before .before in
     (h : PolicyKept (now (s .args .cells)) (s .args .k))
-    → Searching (r .in-rank-order .result .operator) (c .before .before .planned .result) 0 (toZ w64 (ofZ w64 (c .initial .result))) (r .in-rank-order .result .count)
+    → Searching (r .in-rank-order .result .operator) (c .before .planned .result) 0 (toZ w64 (ofZ w64 (c .initial .result))) (r .in-rank-order .result .count)
     (beginning (h .policy) (toZ w32 (ofZ w32 (s .args .threshold))))
 begins c h =
-    let r = c .before .before .before in
+    let r = c .before .before in
     let fits : SFits w64 (c .initial .result) = search needs in
-    begun h (held (r .before) h) (r .in-rank-order .ensures) (c .before .before .planned .ensures) (toZ-ofZ w64 (c .initial .result) fits ∙ c .initial .ensures)
+    begun h (held (r .before) h) (r .in-rank-order .ensures) (c .before .planned .ensures) (toZ-ofZ w64 (c .initial .result) fits ∙ c .initial .ensures)
 
 count-found-requires : tie.Need-count-found-requires
-count-found-requires c κs = (_, begins c (c .before .before .before .before .before .pre .0))
+count-found-requires c κs = (_, begins (c .before) (c .before .before .before .before .before .pre .0))
 
 returns : tie.Need-returns
 returns c h =
     let r = c .before .before .before .before in
     let s = r .before .before in
-    c .count-found .ensures _ (begins (c .before) h)
+    c .count-found .ensures _ (begins (c .before .before) h)
     ∙ ap (λ (F : List (List Rule)). length F) (found-lines h (held (r .before) h) (r .in-rank-order .ensures) _ ∙ ap (λ (t : ℤ). linesOf t (h .policy)) (back s))
 
 pub count-lines-spec : {M : Type 1} → statement M

@@ -50,7 +50,7 @@ initial-requires c κs = tt
 -- the search begins, and finds the lines
 module _ (c : tie.After-initial) where
   abbrev ranked : tie.After-in-rank-order
-  ranked = c .before .before .before
+  ranked = c .before .before
 
   abbrev start : tie.Start
   start = ranked .before .before .before
@@ -59,10 +59,10 @@ module _ (c : tie.After-initial) where
     abbrev p : Point
     p = beginning (h .kept .policy) (toZ w32 (ofZ w32 (start .args .threshold)))
 
-    begins : Searching (ranked .in-rank-order .result .operator) (c .before .before .planned .result) 0 (toZ w64 (ofZ w64 (c .initial .result))) (ranked .in-rank-order .result .count) p
+    begins : Searching (ranked .in-rank-order .result .operator) (c .before .planned .result) 0 (toZ w64 (ofZ w64 (c .initial .result))) (ranked .in-rank-order .result .count) p
     begins =
         let fits : SFits w64 (c .initial .result) = search needs in
-        begun (h .kept) (held (ranked .before) (h .kept)) (ranked .in-rank-order .ensures) (c .before .before .planned .ensures) (toZ-ofZ w64 (c .initial .result) fits ∙ c .initial .ensures)
+        begun (h .kept) (held (ranked .before) (h .kept)) (ranked .in-rank-order .ensures) (c .before .planned .ensures) (toZ-ofZ w64 (c .initial .result) fits ∙ c .initial .ensures)
 
     finds : found p (ranked .in-rank-order .result .count) ≡ linesOf (start .args .threshold) (h .kept .policy)
     finds = found-lines (h .kept) (held (ranked .before) (h .kept)) (ranked .in-rank-order .ensures) _ ∙ ap (λ (t : ℤ). linesOf t (h .kept .policy)) (back start)
@@ -70,37 +70,37 @@ module _ (c : tie.After-initial) where
     so-many : length (found p (ranked .in-rank-order .result .count)) ≡ start .args .count
     so-many = ap (λ (F : List (List Rule)). length F) finds ∙ sym (h .counted)
 
-add-search : tie.Need-add-search
-add-search c = let s = start (c .before) in omega (arith, s .pre .1 .numbers)
+add-last : tie.Need-add-last
+add-last c = omega (arith, start c .pre .1 .numbers)
 
-sub-search : tie.Need-sub-search
-sub-search c = let s = start (c .before) in omega (arith, s .pre .1 .begins)
+sub-last : tie.Need-sub-last
+sub-last c = omega (arith, start c .pre .1 .begins)
 
 search-requires : tie.Need-search-requires
 search-requires c κs =
-    let b = c .before in
+    let b = c .before .before in
     let s = start b in
     let k = s .pre .0 in
     let r = s .pre .1 in
     (p b k, begins b k, no-mask, room-part r (s .args .at) _ (r .begins) (omega (arith, so-many b k)) refl)
 
 -- what the search leaves
-left : (c : tie.After-search) → let b = c .before .before in let s = start b in
+left : (c : tie.After-search) → let b = c .before .before .before in let s = start b in
     (h : LinesKept (now (s .args .cells)) (s .args .k) (s .args .threshold) (s .args .count))
     → c .search .last .1 .1 .1 .1 .1 .1 .0 ≡ putSets (s .args .at + s .args .count - 1) (now (s .args .words)) (s .args .at) (found (p b h) (ranked b .in-rank-order .result .count))
-left c h = let b = c .before .before in c .search .ensures (p b h) (begins b h) no-mask .words
+left c h = let b = c .before .before .before in c .search .ensures (p b h) (begins b h) no-mask .words
 
 same-length : tie.Need-same-length
 unfolding putSets
 same-length c =
     let e = c .before .before in
-    let s = start (e .before .before) in
+    let s = start (e .before .before .before) in
     ap length (left e (s .pre .0)) ∙ puts-length (now (s .args .words)) (s .args .at) _
 
 returns : tie.Need-returns
 returns c h =
     let e = c .before .before in
-    let b = e .before .before in
+    let b = e .before .before .before in
     let s = start b in
     let last : s .args .at + length (found (p b h) (ranked b .in-rank-order .result .count)) ≡ s .args .at + s .args .count - 1 + 1 = omega (arith, s .pre .1 .begins, so-many b h) in
     left e h ∙ put-all (s .args .at + s .args .count - 1) (s .args .at) (now (s .args .words)) _ last
@@ -114,8 +114,8 @@ put-lines-spec =
     in-rank-order-requires
     planned-requires
     initial-requires
-    add-search
-    sub-search
+    add-last
+    sub-last
     search-requires
     same-length
     returns)
