@@ -15,7 +15,7 @@ fn read_compiled(words: &[u32], records: usize, set: u16) -> rod::Decision
     requires { ⌜ 4 * records ≤ length (now words) ⌝ }
     ensures { λ r. ⌜ rodMeaning r ≡ rodAnswer (compiledListing records (now (words .entry))) set ⌝ }
 {
-    let end = records * 4;
+    let end = records * layout::RECORD_WORDS;
     rod::decide(&words[..end], set)
 }
 

@@ -13,7 +13,7 @@ use Rattle.peal.specs.declared.Sense.{Sense}
 use Rattle.peal.specs.declared.Sense.the-variants.{Above, AtMost}
 use Rattle.answers.specs.Answers.{result}
 use Rattle.book.specs.Books.{read, conditionAt}
-use Rattle.text.specs.Codes.{codesOf, HoldsCodes}
+use Rattle.text.specs.Codes.{codeCells, codesOf, HoldsCodes}
 use Rattle.book.specs.declared.cells.Policy.{Policy as StoredPolicy}
 
 -- the number of an operator, and of a sense
@@ -45,7 +45,7 @@ abbrev pub mostConditions : ℕ
 mostConditions = 8
 
 abbrev pub mostCodes : ℕ
-mostCodes = 31
+mostCodes = codeCells
 
 -- a policy has four cells, one for the signal of each rule, and one for its score
 abbrev pub signalsAt : ℕ

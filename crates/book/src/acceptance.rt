@@ -9,6 +9,7 @@ use crate::cells::mask_at;
 use crate::cells::operator_at;
 use crate::cells::second_at;
 use text::CODE_COUNT;
+use text::POLICY_CODE;
 ghost use mathlib.Core.Bool.{_&&_};
 ghost use mathlib.Core.Path.{_≡_};
 ghost use Prim.Native.Nat.{_≤_};
@@ -20,9 +21,6 @@ ghost use Rattle.book.specs.Cells.{ForExclusions, ForExpression, mostPol
 ghost use Rattle.book.specs.Ranges.{ExclusionsKept};
 ghost use Rattle.book.specs.SoFar.{Kept};
 ghost use Rattle.book.specs.Judged.{JudgedFor, PolicyJudged, ConditionJudged};
-
-// The code of policy 0 in an expression; policy k has k more, and a join less.
-const POLICY_CODE: u32 = 2;
 
 // What the lines so far leave for the next one, beside the cells: whether the line above is a `p` or an `r`, the counts,
 // and whether the first line is an `o`.

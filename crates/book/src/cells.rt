@@ -12,7 +12,7 @@ ghost use Rattle.book.specs.Ranges.{PolicyKept, RuleKept, ExclusionsKept
 ghost use Rattle.peal.specs.Standins.{noRule, noExclusion};
 
 // A policy has a rule for each signal at most.
-const MOST_RULES: usize = 16;
+pub const MOST_RULES: usize = 16;
 
 // Policy k has the cells from k * POLICY_CELLS on: its operator, and at these places after that its default, how many
 // rules, the set of their signals, their signals and their scores.
@@ -51,6 +51,20 @@ pub const CELL_COUNT: usize = SECONDS + limits::MOST_EXCLUSIONS;
 
 pub type Cells = [i32; CELL_COUNT];
 
+// The numbers of the operators in a cell.
+pub const OPERATOR_MIN: i32 = 0;
+
+pub const OPERATOR_MAX: i32 = 1;
+
+pub const OPERATOR_SUM: i32 = 2;
+
+pub const OPERATOR_MUL: i32 = 3;
+
+// Those of the senses.
+pub const SENSE_ABOVE: i32 = 0;
+
+pub const SENSE_AT_MOST: i32 = 1;
+
 // A policy by value: its first `count` signals and scores are its rules.
 pub struct Policy {
     pub operator: peal::Operator,
@@ -66,9 +80,9 @@ pub fn operator_at(cells: &Cells, k: usize) -> peal::Operator
 {
     let code = cells[k * POLICY_CELLS];
     match code {
-        0 => peal::Operator::Min,
-        1 => peal::Operator::Max,
-        2 => peal::Operator::Sum,
+        OPERATOR_MIN => peal::Operator::Min,
+        OPERATOR_MAX => peal::Operator::Max,
+        OPERATOR_SUM => peal::Operator::Sum,
         _ => peal::Operator::Mul,
     }
 }
@@ -143,7 +157,7 @@ pub fn sense_at(cells: &Cells, n: usize) -> peal::Sense
 {
     let code = cells[n * CONDITION_CELLS + SENSE];
     match code {
-        0 => peal::Sense::Above,
+        SENSE_ABOVE => peal::Sense::Above,
         _ => peal::Sense::AtMost,
     }
 }

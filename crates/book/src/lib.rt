@@ -12,6 +12,7 @@ ghost use Prim.Native.Nat.{_<_};
 ghost use Rattle.book.specs.Meaning.{reasonNumber};
 pub use cells::CELL_COUNT;
 pub use cells::Cells;
+pub use cells::MOST_RULES;
 pub use cells::Policy;
 pub use cells::code_at;
 pub use cells::count_at;

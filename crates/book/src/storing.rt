@@ -10,10 +10,16 @@ use crate::cells::EXCLUSIONS;
 use crate::cells::FIRSTS;
 use crate::cells::LENGTH;
 use crate::cells::MASK;
+use crate::cells::OPERATOR_MAX;
+use crate::cells::OPERATOR_MIN;
+use crate::cells::OPERATOR_MUL;
+use crate::cells::OPERATOR_SUM;
 use crate::cells::POLICY_CELLS;
 use crate::cells::SCORES;
 use crate::cells::SECONDS;
 use crate::cells::SENSE;
+use crate::cells::SENSE_ABOVE;
+use crate::cells::SENSE_AT_MOST;
 use crate::cells::SIGNALS;
 use crate::cells::THRESHOLD;
 use crate::cells::count_at;
@@ -31,10 +37,10 @@ fn operator_code(operator: peal::Operator) -> i32
     ensures { λ r. ⌜ r ≡ operatorCode operator ⌝ }
 {
     match operator {
-        peal::Operator::Min => 0,
-        peal::Operator::Max => 1,
-        peal::Operator::Sum => 2,
-        peal::Operator::Mul => 3,
+        peal::Operator::Min => OPERATOR_MIN,
+        peal::Operator::Max => OPERATOR_MAX,
+        peal::Operator::Sum => OPERATOR_SUM,
+        peal::Operator::Mul => OPERATOR_MUL,
     }
 }
 
@@ -42,8 +48,8 @@ fn sense_code(sense: peal::Sense) -> i32
     ensures { λ r. ⌜ r ≡ senseCode sense ⌝ }
 {
     match sense {
-        peal::Sense::Above => 0,
-        peal::Sense::AtMost => 1,
+        peal::Sense::Above => SENSE_ABOVE,
+        peal::Sense::AtMost => SENSE_AT_MOST,
     }
 }
 

@@ -24,9 +24,6 @@ const FIRST_MARK: u32 = 4000000000;
 // More marks than there are words in the space, so that no two words have the same.
 const MARKS: usize = 1048576;
 
-// How many words a record has.
-const RECORD: usize = 4;
-
 // A checksum stays below this prime.
 const PRIME: u64 = 1000000007;
 
@@ -118,7 +115,7 @@ fn compiled_into(bytes: &[u8], condition: u32, words: &mut [u32]) -> Outcome
             end: 0,
         };
     };
-    let end = records * RECORD;
+    let end = records * layout::RECORD_WORDS;
     Outcome {
         answer: answer,
         end: end,

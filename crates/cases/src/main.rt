@@ -15,7 +15,7 @@ use vectors::put_line_ends;
 const VECTORS: usize = 262144;
 
 // Room for the largest listing of the cases, which has 205,952 records.
-const SPACE: usize = 823808;
+const SPACE: usize = 205952 * layout::RECORD_WORDS;
 
 fn run_vector(line: &[u8], space: &mut [u32]) {
     if listings::answered(line) {

@@ -13,13 +13,9 @@ use Rattle.peal.specs.Standins.{noRule}
 use Rattle.peal.specs.declared.Operator.{Operator}
 use Rattle.peal.specs.declared.Operator.the-variants.{Mul}
 use Rattle.limits.specs.Limits.{scoreInRange, thresholdInRange}
-use Rattle.book.specs.Cells.{storedPolicy}
+use Rattle.book.specs.Cells.{mostRules, storedPolicy}
 use Rattle.book.specs.declared.cells.Policy.{Policy as StoredPolicy}
 use Rattle.compiler.specs.Worth.{worth, limitOf}
-
--- a policy has at most so many rules
-abbrev pub mostRules : ℕ
-mostRules = 16
 
 -- T is in range
 abbrev pub ThresholdFits : ℤ → Type 0

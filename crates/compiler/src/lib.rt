@@ -6,7 +6,6 @@ mod planning;
 mod searching;
 
 use exclusions::put_exclusions;
-use nodes::NODE_COUNT;
 use nodes::count_records;
 use nodes::put_nodes;
 ghost use mathlib.Core.Path.{_≡_};
@@ -23,13 +22,16 @@ pub enum Compiled {
     NoRoom,
 }
 
+// The number that document 01 gives a listing without room, for the crates above.
+pub const NO_ROOM: u64 = 8;
+
 // Condition n of a read book. The words are written only once the listing is known to have room.
 fn compile_condition(cells: &book::Cells, n: usize, words: &mut [u32]) -> Compiled
     requires { ⌜ ConditionKept (now cells) n ⌝ }
     ensures { λ r. ⌜ ConditionReturns (now (cells .entry)) n (now (words .entry)) (compiledMeaning r) ⌝ }
     ensures { λ r. ⌜ ConditionLeaves (now (cells .entry)) n (now (words .entry)) (now (words .exit)) ⌝ }
 {
-    let mut lines = [0usize; NODE_COUNT];
+    let mut lines = [0usize; text::CODE_COUNT];
     let records = count_records(cells, n, &mut lines);
     if words.len() < records * layout::RECORD_WORDS {
         return Compiled::NoRoom;

@@ -2,6 +2,8 @@
 // For this crate only: no other can name these functions, and each call is proved to meet its condition.
 use crate::searching::count_lines;
 use crate::searching::put_lines;
+use text::CODE_COUNT;
+use text::POLICY_CODE;
 ghost use mathlib.Core.Bool.{cond};
 ghost use mathlib.Core.Path.{_≡_};
 ghost use Prim.Native.Nat.{_+_, _^_, _<_};
@@ -14,14 +16,8 @@ ghost use Rattle.compiler.specs.Searching.{LinesKept, ForLines};
 ghost use Rattle.compiler.specs.Room.{RoomFor};
 ghost use Rattle.compiler.specs.Nodes.{ForJoin, NodeKept, NodeCounted, linesIn, nodeAt, follows, CountsUpTo, CountsKept, RecordsCounted, NodePut, NodesFit, NodesPut};
 
-// A condition has at most so many nodes.
-pub const NODE_COUNT: usize = 31;
-
-// How many lines each of them has.
-pub type LineCounts = [usize; NODE_COUNT];
-
-// A policy's code is its number and this; a smaller code is a join's, 0 for min and 1 for max.
-const POLICY_CODE: u32 = 2;
+// How many lines each node of a condition has: there is a code for each node.
+pub type LineCounts = [usize; CODE_COUNT];
 
 // The kind of a join, from its code: "and" for min under `<`, "or" for max; under `>=` the reverse.
 fn join_kind(sense: peal::Sense, code: u32) -> u32
@@ -127,7 +123,7 @@ pub fn count_records(cells: &book::Cells, n: usize, lines: &mut LineCounts) -> u
     let mut i = 0;
     while i < count {
         let next = next_lines(cells, n, lines, i);
-        // As a slice the array is known to have its 31 cells.
+        // As a slice the array is known to have a cell for each.
         let counts = &mut lines[..];
         counts[i] = next;
         records += 1 + next;

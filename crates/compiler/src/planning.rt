@@ -4,11 +4,9 @@
 ghost use mathlib.Core.Path.{_≡_};
 ghost use Prim.Native.Nat.{_^_, _≤_};
 ghost use lib.Signed.{mag};
+ghost use Rattle.book.specs.Cells.{mostRules};
 ghost use Rattle.compiler.specs.Worth.{initial as initialOf, clamped as clampedOf, limitOf, NextLimit};
-ghost use Rattle.compiler.specs.Planning.{mostRules, ThresholdFits, RulesKept, withRow, PlanOf};
-
-// A policy has at most so many rules.
-const MOST_RULES: usize = 16;
+ghost use Rattle.compiler.specs.Planning.{ThresholdFits, RulesKept, withRow, PlanOf};
 
 // The plan has a row of four cells for each number k of rules, none too. First stands the limit of the sets of k rules;
 // after it, at these places, the operator over the k rules of lowest rank, and the score and the bit of the first of these.
@@ -20,7 +18,7 @@ pub const SCORE: usize = 2;
 
 pub const BIT: usize = 3;
 
-const PLAN_CELLS: usize = (MOST_RULES + 1) * ROW;
+const PLAN_CELLS: usize = (book::MOST_RULES + 1) * ROW;
 
 pub type Plan = [i64; PLAN_CELLS];
 

@@ -15,9 +15,10 @@ ghost use lib.IntN.{natAbs};
 ghost use lib.ListN.{length};
 ghost use lib.Signed.{mag};
 ghost use Rattle.peal.specs.Combining.{combinedOf};
+ghost use Rattle.book.specs.Cells.{mostRules};
 ghost use Rattle.book.specs.Ranges.{PolicyKept};
 ghost use Rattle.compiler.specs.Worth.{reachedOf};
-ghost use Rattle.compiler.specs.Planning.{mostRules, ThresholdFits, scoreIn, bitIn};
+ghost use Rattle.compiler.specs.Planning.{ThresholdFits, scoreIn, bitIn};
 ghost use Rattle.compiler.specs.Searching.{having, allAt, found, CanSearch, ForPoints, BitFits, CanPut, FoundPut, OfLines, LinesKept, LinesPut};
 ghost use Rattle.compiler.specs.Room.{RoomFor};
 

@@ -13,16 +13,16 @@ ghost use Rattle.score.specs.Decisions.{scoredAnswer};
 ghost use Rattle.exports.specs.Packing.{fromBit5, fromBit16, fromBit32, fromBit48, valueEnd, asOne, packed};
 ghost use Rattle.exports.specs.Packing.{countsValue, ScoreTold, CompilingTold, TraverseTold, chosenValue, packedComparison};
 
-// The weight of a value in the number: it begins at oneIf 5, after the code.
+// The weight of a value in the number: it begins at bit 5, after the code.
 const FROM_BIT_5: u64 = 1 << 5;
 
-// In a value: the weight of what stands from oneIf 16 of the number on.
+// In a value: the weight of what stands from bit 16 of the number on.
 const FROM_BIT_16: u64 = (1 << 16) / FROM_BIT_5;
 
-// The same from oneIf 32 on.
+// The same from bit 32 on.
 const FROM_BIT_32: u64 = (1 << 32) / FROM_BIT_5;
 
-// And from oneIf 48 on.
+// And from bit 48 on.
 const FROM_BIT_48: u64 = (1 << 48) / FROM_BIT_5;
 
 // Beyond every value: 64 bits, less those of the code.
@@ -31,22 +31,10 @@ const VALUE_END: u64 = 1 << 59;
 // So far below zero is the lowest score, in hundredths; the value of a score counts from there.
 const BELOW_ZERO: i64 = 10000;
 
-// The number of the refusal of a listing that has more words than were lent.
-const NO_ROOM: u64 = 8;
-
-// That of a listing whose length is not sound.
-const BAD_LENGTH: u64 = 9;
-
-// That of a record which breaks the layout.
-const BAD_RECORD: u64 = 10;
-
-// That of a traverse with more or fewer answers lent than sets.
-const UNEQUAL: u64 = 11;
-
 // By so much the code of a refusal is higher where it is the second listing's.
 const OF_SECOND: u64 = 16;
 
-// A result by its value, which has all its bits from oneIf 5 on if it is below 2 to the 59.
+// A result by its value, which has all its bits from bit 5 on if it is below 2 to the 59.
 fn accepted(value: u64) -> u64
     requires { ⌜ value < valueEnd ⌝ }
     ensures { λ r. ⌜ r ≡ asOne 0 value ⌝ }
@@ -86,10 +74,10 @@ fn refused_listing(fault: layout::Fault) -> u64
     ensures { λ r. ⌜ r ≡ asOne (faultNumber fault) (faultValue fault) ⌝ }
 {
     match fault {
-        layout::Fault::Length => refused(BAD_LENGTH, 0),
+        layout::Fault::Length => refused(layout::BAD_LENGTH, 0),
         layout::Fault::Record(n) => {
             let record = n as u64;
-            refused(BAD_RECORD, record)
+            refused(layout::BAD_RECORD, record)
         }
     }
 }
@@ -149,7 +137,7 @@ pub extern "C" fn cerahupo_compile(bytes: &[u8], condition: u32, words: &mut [u3
             accepted(records)
         }
         compiler::Compiled::Declined(why) => declined(why),
-        compiler::Compiled::NoRoom => refused(NO_ROOM, 0),
+        compiler::Compiled::NoRoom => refused(compiler::NO_ROOM, 0),
     }
 }
 
@@ -176,12 +164,12 @@ pub extern "C" fn cerahupo_traverse(words: &[u32], sets: &[u16], answers: &mut [
             let value = n as u64 % VALUE_END;
             accepted(value)
         }
-        rod::Traversed::Unequal => refused(UNEQUAL, 0),
+        rod::Traversed::Unequal => refused(rod::UNEQUAL, 0),
         rod::Traversed::Declined(fault) => refused_listing(fault),
     }
 }
 
-// A choice by its value below oneIf 48, and how many sets were judged.
+// A choice by its value below bit 48, and how many sets were judged.
 fn accepted_choice(value: u64, judged: u32) -> u64
     requires { ⌜ (value < fromBit48) × (0 < judged) × (judged ≤ 2 ^ 16) ⌝ }
     ensures { λ r. ⌜ r ≡ asOne 0 (value + fromBit48 * (judged - 1)) ⌝ }

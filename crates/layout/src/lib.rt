@@ -25,6 +25,11 @@ pub enum Fault {
     Record(usize),
 }
 
+// The numbers that document 01 gives the two, for the crates above.
+pub const BAD_LENGTH: u64 = 9;
+
+pub const BAD_RECORD: u64 = 10;
+
 // The verdict on the words handed in.
 pub enum Verdict {
     Sound,

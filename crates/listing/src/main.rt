@@ -13,14 +13,11 @@ ghost use lib.ListN.{length};
 const BYTES: usize = 8193;
 
 // Space for 4,096 records.
-const WORDS: usize = 16384;
-
-// How many words a record has.
-const RECORD: usize = 4;
+const WORDS: usize = 4096 * layout::RECORD_WORDS;
 
 // What stands after the i-th word: a record has a line.
 fn print_after(i: usize) {
-    if i % RECORD == 0 {
+    if i % layout::RECORD_WORDS == 0 {
         print_end();
     } else {
         print(b" ");
@@ -46,7 +43,7 @@ fn print_listing(condition: u32, records: usize, words: &[u32])
     print(b" records ");
     print_number(records as u64);
     print_end();
-    let end = records * RECORD;
+    let end = records * layout::RECORD_WORDS;
     let listing = &words[0..end];
     print_records(listing);
     print_choice(checks::choice(listing));

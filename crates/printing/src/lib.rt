@@ -70,8 +70,8 @@ pub fn print_declined(why: book::Declined) {
 
 pub fn print_fault(fault: layout::Fault) {
     match fault {
-        layout::Fault::Length => print_refused(9, 0),
-        layout::Fault::Record(n) => print_refused(10, n as u64),
+        layout::Fault::Length => print_refused(layout::BAD_LENGTH, 0),
+        layout::Fault::Record(n) => print_refused(layout::BAD_RECORD, n as u64),
     }
 }
 
@@ -150,7 +150,7 @@ pub fn print_traversed(t: rod::Traversed) {
             print(b"answered ");
             print_number(n as u64);
         }
-        rod::Traversed::Unequal => print_refused(11, 0),
+        rod::Traversed::Unequal => print_refused(rod::UNEQUAL, 0),
         rod::Traversed::Declined(fault) => print_fault(fault),
     }
 }
@@ -177,7 +177,7 @@ pub fn print_compiled(c: compiler::Compiled) {
             print_number(records as u64);
         }
         compiler::Compiled::Declined(reason) => print_declined(reason),
-        compiler::Compiled::NoRoom => print_refused(8, 0),
+        compiler::Compiled::NoRoom => print_refused(compiler::NO_ROOM, 0),
     }
 }
 

@@ -180,6 +180,9 @@ pub enum Traversed {
     Declined(layout::Fault),
 }
 
+// The number that change request 6 gives unequal slices, for the crates above.
+pub const UNEQUAL: u64 = 11;
+
 pub fn traverse(words: &[u32], sets: &[u16], answers: &mut [u8]) -> Traversed
     ensures { λ r. ⌜ TraverseRan (now (words .entry)) (now (sets .entry)) (now (answers .entry))
         r (now (answers .exit)) ⌝ }

@@ -3,9 +3,14 @@ use crate::exact::Exact;
 use crate::exact::chosen;
 use crate::exact::whole;
 use crate::policies::policy_score;
+use text::MAX_CODE;
+use text::POLICY_CODE;
 ghost use Rattle.book.specs.Ranges.{ConditionKept, ForAsked};
 ghost use Rattle.peal.specs.Score.{score};
 ghost use Rattle.score.specs.Pairs.{Is};
+
+// A condition has at most so many mentions, and so many scores wait at most.
+const MOST_SCORES: usize = 16;
 
 // The score of condition n. The first `height` cells of `scores` wait, the last of them is joined first.
 pub fn expression_score(cells: &book::Cells, n: usize, set: u16) -> Exact
@@ -14,19 +19,20 @@ pub fn expression_score(cells: &book::Cells, n: usize, set: u16) -> Exact
 {
     let all = book::length_at(cells, n);
     let zero = whole(0);
-    let mut scores = [zero; 16];
+    let mut scores = [zero; MOST_SCORES];
     let mut height = 0;
     let mut i = 0;
     while i < all {
         let code = book::code_at(cells, n, i);
-        if code < 2 {
+        if code < POLICY_CODE {
             let one = scores[height - 2];
             let two = scores[height - 1];
-            let joined = chosen(code == 1, one, two);
+            let joined = chosen(code == MAX_CODE, one, two);
             scores[height - 2] = joined;
             height -= 1;
         } else {
-            let mentioned = policy_score(cells, code as usize - 2, set);
+            let k = (code - POLICY_CODE) as usize;
+            let mentioned = policy_score(cells, k, set);
             scores[height] = mentioned;
             height += 1;
         }

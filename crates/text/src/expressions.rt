@@ -17,9 +17,9 @@ pub const CODE_COUNT: usize = 31;
 // one that is n more.
 const MIN_CODE: u32 = 0;
 
-const MAX_CODE: u32 = 1;
+pub const MAX_CODE: u32 = 1;
 
-const POLICY_CODE: u32 = 2;
+pub const POLICY_CODE: u32 = 2;
 
 // How many bytes `min` and `max` have.
 const JOIN_BYTES: usize = 3;

@@ -8,6 +8,8 @@ mod numbers;
 
 pub use bytes::next_byte;
 pub use expressions::CODE_COUNT;
+pub use expressions::MAX_CODE;
+pub use expressions::POLICY_CODE;
 pub use expressions::Parsed;
 pub use expressions::read_expression;
 pub use lines::Line;

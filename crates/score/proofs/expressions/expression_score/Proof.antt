@@ -119,11 +119,8 @@ module _ (c : tie.Else1 Inv-loop μ-loop) where
       value-room (h .book .policies) (start round .args .set) (h .condition .expression) (round .loop .i) (round .loop .scores) (round .loop .height) (round .loop .inv .1 h) _ (mentioned h)
       (omega (arith, c .before .before .loop-test .taken, codes round h, codes-nodes (h .condition .expression))) (omega (arith, few round, codes round h, codes-nodes (h .condition .expression)))
 
-cast-policy-score : tie.Need-cast-policy-score Inv-loop μ-loop
-cast-policy-score c = search needs
-
-sub-policy-score : tie.Need-sub-policy-score Inv-loop μ-loop
-sub-policy-score c = c .if1 .left
+cast-k : tie.Need-cast-k Inv-loop μ-loop
+cast-k c = search needs
 
 policy-score-requires : tie.Need-policy-score-requires Inv-loop μ-loop
 policy-score-requires c κs =
@@ -217,8 +214,7 @@ expression-score-spec =
     mul-scores
     array-set-from-scores
     sub-height
-    cast-policy-score
-    sub-policy-score
+    cast-k
     policy-score-requires
     mul-scores-2
     array-set-from-scores-2
