@@ -37,4 +37,4 @@ module _ {J L A : Type 0} (onJoin : J → A → A → A) (onLeaf : L → A) wher
 
 -- a tree of the same shape
 unfoldable pub mapTree : {J K L M : Type 0} → (J → K) → (L → M) → Tree J L → Tree K M
-mapTree onJoin onLeaf t = treeValue (λ j. join (onJoin j)) (λ l. leaf (onLeaf l)) t
+mapTree onJoin onLeaf tree = treeValue (λ j. join (onJoin j)) (λ l. leaf (onLeaf l)) tree

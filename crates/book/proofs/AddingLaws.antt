@@ -25,7 +25,7 @@ use Rattle.book.specs.Books.{acceptForm, readLine}
 use Rattle.book.specs.Cells.{BookCells}
 use Rattle.book.specs.Meaning.{reasonNumber}
 use Rattle.book.specs.SoFar.{soFarOf, Bounded}
-use Rattle.book.specs.Judged.{after, Judged}
+use Rattle.book.specs.Judged.{withLine, Judged}
 use Rattle.book.specs.Adding.{StepIs}
 use Rattle.book.specs.declared.Reason.{Reason}
 use Rattle.book.specs.declared.acceptance.SoFar.{SoFar}
@@ -33,7 +33,8 @@ use Rattle.book.specs.declared.acceptance.Verdict.{Verdict}
 use Rattle.book.specs.declared.acceptance.Verdict.the-variants.{Fine}
 use Rattle.book.specs.declared.adding.Step.{Step}
 use Rattle.book.specs.declared.adding.Step.the-variants.{Added, Refused}
-use Rattle.book.proofs.RangeLaws.{Passed, passed, rule-room, Apart, apart-in-range}
+use Rattle.book.proofs.RangeLaws.{Apart, apart-in-range}
+use Rattle.book.proofs.BoundedLaws.{Passed, passed, rule-room}
 use Rattle.book.proofs.SoFarLaws.{in-rules-is, policies-is, conditions-is, old-zero-is}
 
 -- ---- a step
@@ -59,31 +60,31 @@ judged-as so f v w e j = subst (λ (x : Verdict). Judged so f x) e j
 
 -- what a fine line has passed
 fine-passed : (so : BookSoFar) (f : Form) → Judged so f Fine → Passed 0 so f
-fine-passed so f j = passed 0 so (after so f) f (sym (j 0))
+fine-passed so f j = passed 0 so (withLine so f) f (sym (j 0))
 
 -- ---- what stands after a line that is added
 
 module _ {state : SoFar} (so : BookSoFar) (left : state ≡ soFarOf so) where
-  pub old-zero-left : _≡_ {A = SoFar} (record { «in_rules» = false; policies = state .policies; conditions = state .conditions; «old_zero» = true }) (soFarOf (after so oldZero))
-  unfolding soFarOf after bookWith opensRules oldZeroAfter
+  pub old-zero-left : _≡_ {A = SoFar} (record { «in_rules» = false; policies = state .policies; conditions = state .conditions; «old_zero» = true }) (soFarOf (withLine so oldZero))
+  unfolding soFarOf withLine bookWith opensRules oldZeroAfter
   old-zero-left = λ i. record { «in_rules» = false; policies = policies-is so left i; conditions = conditions-is so left i; «old_zero» = true }
 
   pub policy-left : (o : Operator) (d : Option ℤ)
-      → _≡_ {A = SoFar} (record { «in_rules» = true; policies = state .policies + 1; conditions = state .conditions; «old_zero» = state .«old_zero» }) (soFarOf (after so (policy o d)))
-  unfolding soFarOf after bookWith opensRules oldZeroAfter withPolicies withPolicy
+      → _≡_ {A = SoFar} (record { «in_rules» = true; policies = state .policies + 1; conditions = state .conditions; «old_zero» = state .«old_zero» }) (soFarOf (withLine so (policy o d)))
+  unfolding soFarOf withLine bookWith opensRules oldZeroAfter withPolicies withPolicy
   policy-left o d =
       let p : Policy = noRules o (defaultOf (so .oldZero) o d) in
       let more : state .policies + 1 ≡ length (so .book .policies ++ (p ∷ [])) = omega (arith, policies-is so left, length-append (so .book .policies) (p ∷ [])) in
       λ i. record { «in_rules» = true; policies = more i; conditions = conditions-is so left i; «old_zero» = old-zero-is so left i }
 
   pub exclusion-left : (a b : ℕ)
-      → _≡_ {A = SoFar} (record { «in_rules» = false; policies = state .policies; conditions = state .conditions; «old_zero» = state .«old_zero» }) (soFarOf (after so (exclusion a b)))
-  unfolding soFarOf after bookWith opensRules oldZeroAfter withExclusion
+      → _≡_ {A = SoFar} (record { «in_rules» = false; policies = state .policies; conditions = state .conditions; «old_zero» = state .«old_zero» }) (soFarOf (withLine so (exclusion a b)))
+  unfolding soFarOf withLine bookWith opensRules oldZeroAfter withExclusion
   exclusion-left a b = λ i. record { «in_rules» = false; policies = policies-is so left i; conditions = conditions-is so left i; «old_zero» = old-zero-is so left i }
 
   pub condition-left : (c : Sense) (t : ℤ) (e : Expression)
-      → _≡_ {A = SoFar} (record { «in_rules» = false; policies = state .policies; conditions = state .conditions + 1; «old_zero» = state .«old_zero» }) (soFarOf (after so (condition c t e)))
-  unfolding soFarOf after bookWith opensRules oldZeroAfter withCondition
+      → _≡_ {A = SoFar} (record { «in_rules» = false; policies = state .policies; conditions = state .conditions + 1; «old_zero» = state .«old_zero» }) (soFarOf (withLine so (condition c t e)))
+  unfolding soFarOf withLine bookWith opensRules oldZeroAfter withCondition
   condition-left c t e =
       let k : Condition = record { sense = c; threshold = t; expression = e } in
       let more : state .conditions + 1 ≡ length (so .book .conditions ++ (k ∷ [])) = omega (arith, conditions-is so left, length-append (so .book .conditions) (k ∷ [])) in
@@ -98,8 +99,8 @@ module _ {state : SoFar} (so : BookSoFar) (left : state ≡ soFarOf so) where
     pub rule-follows : state .«in_rules» ≡ true
     rule-follows = in-rules-is so left ∙ placed
 
-    pub rule-left : state ≡ soFarOf (after so (rule signal v))
-    unfolding soFarOf after bookWith opensRules oldZeroAfter withLast withPolicies
+    pub rule-left : state ≡ soFarOf (withLine so (rule signal v))
+    unfolding soFarOf withLine bookWith opensRules oldZeroAfter withLast withPolicies
     rule-left =
         let p : Policy = withRule (lastPolicy (so .book)) (record { signal = signal; score = v }) in
         left
@@ -162,22 +163,22 @@ module _ (so : BookSoFar) (c : Sense) (t : ℤ) (e : Expression) (j : Judged so 
 -- ---- the cells after a line that is added
 
 module _ (cells : List ℤ) (so : BookSoFar) where
-  pub policy-cells : (o : Operator) (d : Option ℤ) (z : ℤ) → z ≡ defaultOf (so .oldZero) o d → BookCells cells (withPolicy (so .book) (noRules o z)) → BookCells cells (after so (policy o d) .book)
-  unfolding after bookWith
+  pub policy-cells : (o : Operator) (d : Option ℤ) (z : ℤ) → z ≡ defaultOf (so .oldZero) o d → BookCells cells (withPolicy (so .book) (noRules o z)) → BookCells cells (withLine so (policy o d) .book)
+  unfolding withLine bookWith
   policy-cells o d z e k = subst (λ (x : ℤ). BookCells cells (withPolicy (so .book) (noRules o x))) e k
 
   pub rule-cells : (s : ℕ) (y z : ℤ) → y ≡ z → BookCells cells (withLast (so .book) (withRule (lastPolicy (so .book)) (record { signal = s; score = y })))
-      → BookCells cells (after so (rule s z) .book)
-  unfolding after bookWith
+      → BookCells cells (withLine so (rule s z) .book)
+  unfolding withLine bookWith
   rule-cells s y z e k = subst (λ (x : ℤ). BookCells cells (withLast (so .book) (withRule (lastPolicy (so .book)) (record { signal = s; score = x })))) e k
 
-  pub exclusion-cells : (a b : ℕ) → BookCells cells (withExclusion (so .book) (record { first = a; second = b })) → BookCells cells (after so (exclusion a b) .book)
-  unfolding after bookWith
+  pub exclusion-cells : (a b : ℕ) → BookCells cells (withExclusion (so .book) (record { first = a; second = b })) → BookCells cells (withLine so (exclusion a b) .book)
+  unfolding withLine bookWith
   exclusion-cells a b k = k
 
   pub condition-cells : (c : Sense) (y z : ℤ) (e : Expression) → y ≡ z → BookCells cells (withCondition (so .book) (record { sense = c; threshold = y; expression = e }))
-      → BookCells cells (after so (condition c z e) .book)
-  unfolding after bookWith
+      → BookCells cells (withLine so (condition c z e) .book)
+  unfolding withLine bookWith
   condition-cells c y z e q k = subst (λ (x : ℤ). BookCells cells (withCondition (so .book) (record { sense = c; threshold = x; expression = e }))) q k
 
 -- ---- a signed number that was passed on

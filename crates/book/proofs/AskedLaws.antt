@@ -12,7 +12,7 @@ use Rattle.book.specs.Books.{read, Counts, checked, conditionAt, asked}
 use Rattle.book.specs.Asked.{IsAsked}
 use Rattle.book.specs.Ranges.{ConditionInRange, BookInRange}
 use Rattle.book.specs.Cells.{BookCells}
-use Rattle.book.proofs.RangeLaws.{read-in-range}
+use Rattle.book.proofs.BoundedLaws.{read-in-range}
 use Rattle.book.proofs.ReadLaws.{checked-result, checked-refused}
 use Rattle.book.proofs.ConditionLaws.{no-condition, some-condition, each-condition}
 

@@ -25,7 +25,7 @@ use Rattle.text.specs.Forms.{Form, oldZero, policy, rule, exclusion, condition}
 use Rattle.book.specs.Acceptance.{BookSoFar, lastPolicy, noCondition, inPlace, inCount, roomForRule, defaultInRange, scoreInRange, mentionsBelow, inRange, excludes, isNew, accept}
 use Rattle.book.specs.Ranges.{signalsOf}
 use Rattle.text.specs.Codes.{HoldsCodes}
-use Rattle.book.specs.Judged.{after}
+use Rattle.book.specs.Judged.{withLine}
 
 -- ---- the tests in their order
 
@@ -46,8 +46,8 @@ module _ (n : ℕ) (so : BookSoFar) (f : Form) where
   unfolding accept
   accept-6 a b c d = rw (a, b, c, d)
 
-  pub accept-fine : inPlace n so f ≡ true → inCount so f ≡ true → inRange so f ≡ true → isNew so f ≡ true → result (after so f) ≡ accept n so f
-  unfolding accept after
+  pub accept-fine : inPlace n so f ≡ true → inCount so f ≡ true → inRange so f ≡ true → isNew so f ≡ true → result (withLine so f) ≡ accept n so f
+  unfolding accept withLine
   accept-fine a b c d = rw (a, b, c, d)
 
 -- ---- before the first condition
@@ -66,7 +66,7 @@ module _ (n : ℕ) (so : BookSoFar) where
   unfolding inPlace
   old-zero-placed t b e h = sym e ∙ h
 
-  pub old-zero-fine : inPlace n so oldZero ≡ true → result (after so oldZero) ≡ accept n so oldZero
+  pub old-zero-fine : inPlace n so oldZero ≡ true → result (withLine so oldZero) ≡ accept n so oldZero
   unfolding inCount inRange isNew
   old-zero-fine h = accept-fine n so oldZero h refl refl refl
 

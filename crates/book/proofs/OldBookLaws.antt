@@ -18,12 +18,12 @@ use Rattle.text.specs.Text.{bytes, Line, longer, parted, textLines}
 use Rattle.text.specs.Forms.{Form, oldZero, policy, rule, exclusion, condition, form}
 use Rattle.book.specs.Acceptance.{BookSoFar, noLine, inPlace, inCount, inRange, isNew, defaultInRange, missingDefault, defaultOf, bookWith, opensRules, oldZeroAfter, accept}
 use Rattle.book.specs.Books.{acceptForm, readLine, readLines, read}
-use Rattle.book.specs.Judged.{after}
+use Rattle.book.specs.Judged.{withLine}
 use Rattle.book.specs.OldBooks.{readBefore, NoLineOf, AllGiven, lineBelow, bareLine, zeroLine, ZerosWritten, OldBooks}
 use Rattle.book.specs.Computing.{bookComputes}
 use Rattle.text.proofs.TextLaws.{line-before}
 use Rattle.book.proofs.JudgeLaws.{accept-fine}
-use Rattle.book.proofs.RangeLaws.{passed}
+use Rattle.book.proofs.BoundedLaws.{passed}
 use Rattle.book.proofs.ReadLaws.{read-lines}
 
 -- the book so far, as it was read before
@@ -116,9 +116,9 @@ then-require false k v a f = refl
 
 -- what is gone on to after the four tests
 older-tests : (n : ℕ) (so : BookSoFar) (f : Form)
-    → require (inPlace n so f) 3 n (require (inCount so f) 4 n (require (inRange so f) 5 n (require (isNew so f) 6 n (result (older (after so f))))))
+    → require (inPlace n so f) 3 n (require (inCount so f) 4 n (require (inRange so f) 5 n (require (isNew so f) 6 n (result (older (withLine so f))))))
     ≡ onResult (accept n so f) (λ next. result (older next))
-unfolding accept after
+unfolding accept withLine
 older-tests n so f =
     ap (require (inPlace n so f) 3 n)
     (ap (require (inCount so f) 4 n)
@@ -127,7 +127,7 @@ older-tests n so f =
 
 older-accept : (n : ℕ) (so : BookSoFar) (f : Form) → (f ≡ policy Min none → ⊥) → (f ≡ policy Mul none → ⊥)
     → accept n (older so) f ≡ onResult (accept n so f) (λ next. result (older next))
-unfolding accept after inPlace inCount inRange isNew bookWith opensRules oldZeroAfter older
+unfolding accept withLine inPlace inCount inRange isNew bookWith opensRules oldZeroAfter older
 older-accept n so oldZero p q = older-tests n so oldZero
 older-accept n so (policy o d) p q = rw (same-default (so .oldZero) o d p q) (older-tests n so (policy o d))
 older-accept n so (rule s v) p q = older-tests n so (rule s v)
@@ -179,8 +179,8 @@ module _ (n : ℕ) (so : BookSoFar) (old : so .oldZero ≡ true) where
   zero-line Sum = zero-accept Sum
   zero-line Mul = zero-accept Mul
 
-  old-after : (f : Form) → after so f .oldZero ≡ true
-  unfolding after oldZeroAfter
+  old-after : (f : Form) → withLine so f .oldZero ≡ true
+  unfolding withLine oldZeroAfter
   old-after oldZero = refl
   old-after (policy o d) = old
   old-after (rule s v) = old

@@ -16,14 +16,14 @@ use Rattle.book.specs.Books.{readLine, readLines, read, Counts, checked}
 use Rattle.book.specs.Cells.{BookCells, ReadInto}
 use Rattle.book.specs.Meaning.{reasonNumber, checkedMeaning}
 use Rattle.book.specs.SoFar.{soFarOf, Holds}
-use Rattle.book.specs.Adding.{stepMeaning, countsOf, StepIs}
+use Rattle.book.specs.Adding.{addedMeaning, countsOf, StepIs}
 use Rattle.book.specs.declared.Reason.{Reason}
 use Rattle.book.specs.declared.Checked.{Checked}
 use Rattle.book.specs.declared.acceptance.SoFar.{SoFar}
 use Rattle.book.specs.declared.adding.Step.{Step}
 use Rattle.book.specs.declared.adding.Step.the-variants.{Added, Refused}
 use Rattle.text.proofs.TextLaws.{lineTo, line-at, no-line-at}
-use Rattle.book.proofs.RangeLaws.{bounded-start, line-bounded}
+use Rattle.book.proofs.BoundedLaws.{bounded-start, line-bounded}
 
 -- ---- the book, line by line
 
@@ -63,11 +63,11 @@ module _ (s : List ℕ) (at n e : ℕ) (state : SoFar) (cells : List ℤ) (g : G
       ∙ sym (ap (readLines n (g .so)) (line-at s at e h q)) ∙ g .same
 
   pub going-refused : (r : Reason) → step ≡ Refused r → read s ≡ refused (reasonNumber r) n
-  going-refused r v = sym (then-on (refused (reasonNumber r) n) (passed-up answer soFarOf (reasonNumber r) n (sym (is .told) ∙ ap (stepMeaning n) v)))
+  going-refused r v = sym (then-on (refused (reasonNumber r) n) (passed-up answer soFarOf (reasonNumber r) n (sym (is .told) ∙ ap (addedMeaning n) v)))
 
   pub going-on : (next : SoFar) → step ≡ Added next → Going s (e + 1) (n + 1) next left
   going-on next v =
-      let (so, r, f) = gone-on answer (λ x. result (soFarOf x)) next (sym (is .told) ∙ ap (stepMeaning n) v) in
+      let (so, r, f) = gone-on answer (λ x. result (soFarOf x)) next (sym (is .told) ∙ ap (addedMeaning n) v) in
       record {
         so = so;
         held = record { left = sym (result-is f); held = is .held so r; bounded = line-bounded n (g .so) so (lineTo s at e) (g .held .bounded) r };
@@ -78,7 +78,7 @@ module _ (s : List ℕ) (at n e : ℕ) (state : SoFar) (cells : List ℤ) (g : G
 
 -- what is told after a step of line n
 abbrev TellsStep : Checked → ℕ → Step → Type 0
-TellsStep r n step = checkedMeaning r ≡ onResult (stepMeaning n step) (λ state. result (countsOf state))
+TellsStep r n step = checkedMeaning r ≡ onResult (addedMeaning n step) (λ state. result (countsOf state))
 
 abbrev Tells : List ℕ → Checked → List ℤ → Type 0
 Tells s r cells = (checkedMeaning r ≡ checked s) × ReadInto s cells

@@ -25,9 +25,9 @@ use Rattle.book.specs.declared.adding.Step.{Step}
 use Rattle.book.specs.declared.adding.Step.the-variants.{Added, Refused}
 
 -- what the step of line n tells: what stands so far, beside the cells, or the refusal
-abbrev pub stepMeaning : ℕ → Step → Answer SoFar
-stepMeaning n (Added state) = result state
-stepMeaning n (Refused reason) = refused (reasonNumber reason) n
+abbrev pub addedMeaning : ℕ → Step → Answer SoFar
+addedMeaning n (Added state) = result state
+addedMeaning n (Refused reason) = refused (reasonNumber reason) n
 
 -- how many policies and conditions there are so far
 abbrev pub countsOf : SoFar → Counts
@@ -35,7 +35,7 @@ countsOf state = record { policies = state .policies; conditions = state .condit
 
 -- the step of line n tells the definition's answer, and the cells after it are the book's where the line is added
 pub record StepIs (n : ℕ) (answer : Answer BookSoFar) (step : Step) (cells : List ℤ) : Type 0 where
-  pub told : stepMeaning n step ≡ onResult answer (λ soFar. result (soFarOf soFar))
+  pub told : addedMeaning n step ≡ onResult answer (λ soFar. result (soFarOf soFar))
   pub held : (soFar : BookSoFar) → answer ≡ result soFar → BookCells cells (soFar .book)
 
 -- the step of a line of this form, for each line number and each book so far that the state and the cells before it hold

@@ -18,17 +18,17 @@ use Rattle.book.specs.declared.acceptance.Verdict.{Verdict}
 use Rattle.book.specs.declared.acceptance.Verdict.the-variants.{Fine, Refused}
 
 -- a verdict on line n: what stands so far after the line, or the refusal
-abbrev pub verdictMeaning : ℕ → Verdict → BookSoFar → Answer BookSoFar
-verdictMeaning n Fine next = result next
-verdictMeaning n (Refused reason) next = refused (reasonNumber reason) n
+abbrev pub judgedMeaning : ℕ → Verdict → BookSoFar → Answer BookSoFar
+judgedMeaning n Fine next = result next
+judgedMeaning n (Refused reason) next = refused (reasonNumber reason) n
 
 -- the book so far with the line added
-unfoldable pub after : BookSoFar → Form → BookSoFar
-after soFar f = record { book = bookWith soFar f; inRules = opensRules f; oldZero = oldZeroAfter soFar f }
+unfoldable pub withLine : BookSoFar → Form → BookSoFar
+withLine soFar f = record { book = bookWith soFar f; inRules = opensRules f; oldZero = oldZeroAfter soFar f }
 
 -- the verdict on this form, whichever line it is
 abbrev pub Judged : BookSoFar → Form → Verdict → Type 0
-Judged soFar f verdict = (n : ℕ) → verdictMeaning n verdict (after soFar f) ≡ accept n soFar f
+Judged soFar f verdict = (n : ℕ) → judgedMeaning n verdict (withLine soFar f) ≡ accept n soFar f
 
 -- the verdict on a form, for each book so far that the state and the cells hold
 abbrev pub JudgedFor : SoFar → List ℤ → Form → Verdict → Type 0

@@ -1,4 +1,4 @@
--- What every accepted book keeps to (document 01, "Ranges" and the limits of "The book"); proved in proofs/RangeLaws.antt.
+-- What every accepted book keeps to (document 01, "Ranges" and the limits of "The book"); proved in proofs/BoundedLaws.antt.
 use Prim.Native.Nat.{ℕ, _≤_, _<_}
 use mathlib.Core.Bool.{true}
 use mathlib.Core.List.{List, map}

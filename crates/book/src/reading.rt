@@ -10,21 +10,18 @@ use crate::adding::add_line;
 use crate::cells::CELL_COUNT;
 use crate::cells::Cells;
 use crate::storing::put_nothing;
-use text::next_byte;
+use text::line_end;
 ghost use mathlib.Core.Path.{_≡_};
 ghost use Rattle.answers.specs.Answers.{result, onResult};
-ghost use Rattle.book.specs.Adding.{stepMeaning, countsOf};
+ghost use Rattle.book.specs.Adding.{addedMeaning, countsOf};
 ghost use Rattle.book.specs.Asked.{AskedAs};
 ghost use Rattle.book.specs.Books.{checked};
 ghost use Rattle.book.specs.Cells.{ReadInto};
 ghost use Rattle.book.specs.Meaning.{checkedMeaning};
 
-// The byte that ends a line.
-const LINE_END: u8 = 10;
-
 // What is told of a book whose last step is this one, of that line: how many of each there are so far, or the refusal.
 fn answer_after(step: Step, line: usize) -> Checked
-    ensures { λ r. ⌜ checkedMeaning r ≡ onResult (stepMeaning line step) (λ state. result (countsOf state)) ⌝ }
+    ensures { λ r. ⌜ checkedMeaning r ≡ onResult (addedMeaning line step) (λ state. result (countsOf state)) ⌝ }
 {
     match step {
         Step::Added(state) => Checked::Accepted {
@@ -58,7 +55,7 @@ fn read(bytes: &[u8], cells: &mut Cells) -> Checked
     let mut at = 0;
     let mut line = 1;
     while at < size {
-        let end = next_byte(bytes, at, LINE_END);
+        let end = line_end(bytes, at);
         let step = add_line(cells, state, &bytes[at..end], end < size, line == 1);
         let Step::Added(next) = step else {
             return answer_after(step, line);

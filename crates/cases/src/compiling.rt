@@ -100,9 +100,9 @@ fn print_listing(words: &[u32], large: bool) {
 }
 
 // What compiling returned, and where the listing ends in the words: at 0 on a refusal.
-pub struct Outcome {
-    pub answer: compiler::Compiled,
-    pub end: usize,
+struct Outcome {
+    answer: compiler::Compiled,
+    end: usize,
 }
 
 fn compiled_into(bytes: &[u8], condition: u32, words: &mut [u32]) -> Outcome
@@ -155,16 +155,16 @@ fn run_both(text: &[u8], words: &mut [u32]) {
     print_logger(score::decide(&text[start..], v.condition, set));
 }
 
-fn rod_number(d: rod::Decision) -> usize {
-    match d {
+fn rod_number(decision: rod::Decision) -> usize {
+    match decision {
         rod::Decision::No => NO,
         rod::Decision::Yes => YES,
         _ => DIFFER,
     }
 }
 
-fn score_number(d: score::Decision) -> usize {
-    match d {
+fn score_number(decision: score::Decision) -> usize {
+    match decision {
         score::Decision::No => NO,
         score::Decision::Yes => YES,
         _ => SCORE_DECLINED,

@@ -22,7 +22,7 @@ use Rattle.checks.proofs.Pairs.{permitted-zero}
 use Rattle.checks.proofs.Search.{LowestIs, lowest-is}
 use Rattle.book.specs.Acceptance.{within}
 use Rattle.book.specs.Books.{read, Counts, checked}
-use Rattle.book.proofs.RangeLaws.{read-in-range}
+use Rattle.book.proofs.BoundedLaws.{read-in-range}
 use Rattle.score.specs.Shown.{shownAnswer}
 use Rattle.score.specs.declared.exact.Exact.{Exact}
 use Rattle.score.proofs.ShownTells.{shown-tells}

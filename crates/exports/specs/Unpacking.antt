@@ -49,7 +49,7 @@ chosenIn v = record { choice = choiceIn (v % fromBit48); judged = v / fromBit48 
 
 -- one of the two listings, by a test for the first
 unfoldable pub whichOf : Bool → Which
-whichOf t = cond t first second
+whichOf ofFirst = cond ofFirst first second
 
 unfoldable pub differenceIn : ℕ → Comparison
 differenceIn v = cond (eqb v 0) alike (differ (v / fromBit16) (whichOf (eqb (v % fromBit16) 3)))

@@ -43,6 +43,7 @@ after-none ws i = record { later = omega arith; sameNode = refl; sameJudged = λ
 -- one line more of the policy at index `node`
 pub after-line : (ws : List ℕ) (node i mask : ℕ) (r : Record) → r ≡ recordAt ws node → 16 ≤ r .kind → r .mask ≡ mask → i < length ws / 4
     → PassedOver ws i mask → AfterLines ws node i → AfterLines ws node (i + 1)
+unfolding lineKind
 after-line ws node i mask r er k m h p a =
     let many : 16 ≤ getD ws (node * 4) 0 = omega (arith, ap (λ (y : Record). y .kind) er) in
     let same : getD ws (node * 4 + 1) 0 ≡ mask = sym (ap (λ (y : Record). y .mask) er) ∙ m in

@@ -41,7 +41,7 @@ insidePolicy mask (some policyMask) = isSet mask && inside mask policyMask
 
 -- record n, of this kind, keeps to the layout; `after` are the kinds of the records after it
 unfoldable pub keepsLayout : ℕ → SoFar → Kind → Record → List Kind → Bool
-keepsLayout n so (policy q t) r after =
+keepsLayout n so (policy quiet turned) r after =
     isSet (r .mask) && eqb (r .lines) (ifLine after (n + 1)) && eqb (r .next) (nextNode (n + 1) after) && leb (so .policies + 1) 16
 keepsLayout n so line r after =
     insidePolicy (r .mask) (so .policyMask) && eqb (r .lines) 0 && eqb (r .next) (ifLine after (n + 1))
@@ -54,7 +54,7 @@ keepsLayout n so unknown r after = false
 
 -- what stands above the next record: a policy adds a value and may have lines; a join takes two values and leaves one
 unfoldable pub soFarAfter : SoFar → Kind → Record → SoFar
-soFarAfter so (policy q t) r = record { policyMask = some (r .mask); values = so .values + 1; policies = so .policies + 1 }
+soFarAfter so (policy quiet turned) r = record { policyMask = some (r .mask); values = so .values + 1; policies = so .policies + 1 }
 soFarAfter so line r = so
 soFarAfter so (join j) r = record { policyMask = none; values = so .values - 1; policies = so .policies }
 soFarAfter so exclusion r = record { policyMask = none; values = so .values; policies = so .policies }

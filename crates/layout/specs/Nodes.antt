@@ -49,7 +49,7 @@ leadingLines (r ∷ rest) = cond (isLine (kindOf (r .kind))) (r .mask ∷ leadin
 
 -- a record's node, in front of the nodes after it; a policy has the lines that follow it; a line or an exclusion is no node
 unfoldable pub nodeThen : Kind → ℕ → List ℕ → List ListedNode → List ListedNode
-nodeThen (policy q t) mask ls ns = value (record { quiet = q; turned = t; mask = mask; lines = ls }) ∷ ns
+nodeThen (policy quiet turned) mask ls ns = value (record { quiet = quiet; turned = turned; mask = mask; lines = ls }) ∷ ns
 nodeThen line mask ls ns = ns
 nodeThen (join j) mask ls ns = joining j ∷ ns
 nodeThen exclusion mask ls ns = ns
@@ -63,7 +63,7 @@ nodes (r ∷ rest) = nodeThen (kindOf (r .kind)) (r .mask) (leadingLines rest) (
 -- the mask of an excluded pair, in front of those after it
 unfoldable pub pairThen : Kind → ℕ → List ℕ → List ℕ
 pairThen exclusion mask pairs = mask ∷ pairs
-pairThen (policy q t) mask pairs = []
+pairThen (policy quiet turned) mask pairs = []
 pairThen line mask pairs = []
 pairThen (join j) mask pairs = []
 pairThen unknown mask pairs = []

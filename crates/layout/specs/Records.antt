@@ -74,7 +74,7 @@ kindOf k =
 -- a record is a line
 unfoldable pub isLine : Kind → Bool
 isLine line = true
-isLine (policy q t) = false
+isLine (policy quiet turned) = false
 isLine (join j) = false
 isLine exclusion = false
 isLine unknown = false

@@ -8,7 +8,7 @@ use lib.Dec.{eqb, leb}
 use lib.ListN.{getD, drop}
 use Rattle.signals.specs.Sets.{isSet, isPair}
 use Rattle.layout.specs.Records
-use Rattle.layout.specs.Records.{records, kindOf, kinds}
+use Rattle.layout.specs.Records.{records, lineKind, kindOf, kinds}
 use Rattle.layout.specs.Judgement
 use Rattle.layout.specs.Judgement.{nextNode, insidePolicy, keepsLayout, soFarAfter, judged}
 use Rattle.layout.specs.declared.records.Kind.{Kind}
@@ -23,7 +23,7 @@ abbrev pub kindMeaning : Kind → Records.Kind
 kindMeaning Line = Records.Kind.line
 kindMeaning And = Records.Kind.join Records.Join.and
 kindMeaning Or = Records.Kind.join Records.Join.or
-kindMeaning (Policy q t) = Records.Kind.policy q t
+kindMeaning (Policy quiet turned) = Records.Kind.policy quiet turned
 kindMeaning Exclusion = Records.Kind.exclusion
 kindMeaning Unknown = Records.Kind.unknown
 
@@ -82,7 +82,11 @@ stepAt ws i so = stepOf (i + 1) so (kindOf (getD ws (i * 4) 0)) (recordAt ws i) 
 
 -- the record at index i is a line, and a step over it leaves what stands above as it is, where that is a policy of this mask
 abbrev pub PassedOver : List ℕ → ℕ → ℕ → Type 0
-PassedOver ws i mask = (getD ws (i * 4) 0 ≡ 4) × ((so : Judgement.SoFar) → so .policyMask ≡ some mask → some so ≡ stepAt ws i so)
+PassedOver ws i mask = (getD ws (i * 4) 0 ≡ lineKind) × ((so : Judgement.SoFar) → so .policyMask ≡ some mask → some so ≡ stepAt ws i so)
+
+-- a yes tells that the record at index i is passed over; a no tells nothing
+abbrev pub YesPasses : List ℕ → (i mask : ℕ) → Bool → Type 0
+YesPasses ws i mask passes = passes ≡ true → PassedOver ws i mask
 
 -- the records between index i and index `end` are lines that change neither the next node nor, after a step over index i, the judgement
 pub record AfterLines (ws : List ℕ) (i end : ℕ) : Type 0 where

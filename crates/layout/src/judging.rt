@@ -8,14 +8,13 @@ use crate::records::RECORD_WORDS;
 use crate::records::Record;
 use crate::records::kind_of;
 use crate::records::record_at;
-ghost use mathlib.Core.Bool.{true};
 ghost use mathlib.Core.Path.{_≡_};
 ghost use Prim.Native.Nat.{_+_, _*_, _≤_};
 ghost use lib.ListN.{length};
 ghost use Rattle.layout.specs.Records.{kinds};
 ghost use Rattle.layout.specs.Judgement.{ifAny, ifLine, nextNode, insidePolicy, verdict};
 ghost use Rattle.layout.specs.Meaning.{verdictMeaning};
-ghost use Rattle.layout.specs.Steps.{recordMeaning, recordsFrom, soFarMeaning, stepMeaning, policyStep, lineStep, joinStep, exclusionStep, stepAt, PassedOver, AfterLines};
+ghost use Rattle.layout.specs.Steps.{recordMeaning, recordsFrom, soFarMeaning, stepMeaning, policyStep, lineStep, joinStep, exclusionStep, stepAt, YesPasses, AfterLines};
 
 // How many policies a listing may have.
 const MOST_POLICIES: usize = 16;
@@ -188,7 +187,7 @@ fn next_node(words: &[u32], from: usize) -> usize
 // Yes only for a record that is a sound line of a policy of this mask. One that gets a no is judged as every other record.
 fn is_sound_line(words: &[u32], i: usize, mask: u16) -> bool
     requires { ⌜ i * 4 + 4 ≤ length (now words) ⌝ }
-    ensures { λ r. ⌜ (r ≡ true → PassedOver (now (words .entry)) i mask) ⌝ }
+    ensures { λ r. ⌜ YesPasses (now (words .entry)) i mask r ⌝ }
 {
     let r = record_at(words, i);
     if r.kind != LINE {

@@ -65,10 +65,10 @@ fn list_conditions(bytes: &[u8], conditions: usize)
     requires { ⌜ conditions ≤ 8 ⌝ }
 {
     let mut words = [0u32; WORDS];
-    let mut k = 0;
-    while k < conditions {
-        list_condition(bytes, k as u32, &mut words);
-        k += 1;
+    let mut n = 0;
+    while n < conditions {
+        list_condition(bytes, n as u32, &mut words);
+        n += 1;
     }
 }
 

@@ -49,26 +49,26 @@ fn print_signed(n: i64) {
     }
 }
 
-pub fn print_refused(number: u64, value: u64) {
+fn print_refused(number: u64, value: u64) {
     print(b"refused ");
     print_number(number);
     print(b" ");
     print_number(value);
 }
 
-pub fn print_refusal(refusal: book::Refusal) {
+fn print_refusal(refusal: book::Refusal) {
     let reason = refusal.reason;
     print_refused(book::reason_number(reason), refusal.line as u64);
 }
 
-pub fn print_declined(why: book::Declined) {
+fn print_declined(why: book::Declined) {
     match why {
         book::Declined::Refused(refusal) => print_refusal(refusal),
         book::Declined::NoCondition => print_refused(book::NO_CONDITION, 0),
     }
 }
 
-pub fn print_fault(fault: layout::Fault) {
+fn print_fault(fault: layout::Fault) {
     match fault {
         layout::Fault::Length => print_refused(layout::BAD_LENGTH, 0),
         layout::Fault::Record(n) => print_refused(layout::BAD_RECORD, n as u64),
@@ -82,8 +82,8 @@ fn print_both(yes: u16, no: u16) {
 }
 
 // The choice alone, without how many sets were judged.
-pub fn print_choice(c: checks::ChoiceAnswer) {
-    match c {
+pub fn print_choice(answer: checks::ChoiceAnswer) {
+    match answer {
         checks::ChoiceAnswer::Always(_) => print(b"always"),
         checks::ChoiceAnswer::Never(_) => print(b"never"),
         checks::ChoiceAnswer::Both(yes, no, _) => print_both(yes, no),
@@ -97,9 +97,9 @@ fn print_judged(judged: u32) {
 }
 
 // The choice, and how many sets were judged.
-pub fn print_chosen(c: checks::ChoiceAnswer) {
-    print_choice(c);
-    match c {
+pub fn print_chosen(answer: checks::ChoiceAnswer) {
+    print_choice(answer);
+    match answer {
         checks::ChoiceAnswer::Always(judged) => print_judged(judged),
         checks::ChoiceAnswer::Never(judged) => print_judged(judged),
         checks::ChoiceAnswer::Both(_, _, judged) => print_judged(judged),
@@ -113,8 +113,8 @@ fn print_difference(set: u16, which: &[u8]) {
     print(which);
 }
 
-pub fn print_comparison(c: checks::ComparisonAnswer) {
-    match c {
+pub fn print_comparison(answer: checks::ComparisonAnswer) {
+    match answer {
         checks::ComparisonAnswer::Alike => print(b"alike"),
         checks::ComparisonAnswer::FirstYes(set) => print_difference(set, b" first"),
         checks::ComparisonAnswer::SecondYes(set) => print_difference(set, b" second"),
@@ -129,23 +129,23 @@ pub fn print_comparison(c: checks::ComparisonAnswer) {
     }
 }
 
-pub fn print_verdict(v: layout::Verdict) {
-    match v {
+pub fn print_verdict(verdict: layout::Verdict) {
+    match verdict {
         layout::Verdict::Sound => print(b"sound"),
         layout::Verdict::Declined(fault) => print_fault(fault),
     }
 }
 
-pub fn print_rod(d: rod::Decision) {
-    match d {
+pub fn print_rod(decision: rod::Decision) {
+    match decision {
         rod::Decision::Yes => print(b"yes"),
         rod::Decision::No => print(b"no"),
         rod::Decision::Declined(fault) => print_fault(fault),
     }
 }
 
-pub fn print_traversed(t: rod::Traversed) {
-    match t {
+pub fn print_traversed(traversed: rod::Traversed) {
+    match traversed {
         rod::Traversed::Answered(n) => {
             print(b"answered ");
             print_number(n as u64);
@@ -155,8 +155,8 @@ pub fn print_traversed(t: rod::Traversed) {
     }
 }
 
-pub fn print_checked(c: book::Checked) {
-    match c {
+pub fn print_checked(checked: book::Checked) {
+    match checked {
         book::Checked::Accepted {
             policies,
             conditions,
@@ -170,35 +170,35 @@ pub fn print_checked(c: book::Checked) {
     }
 }
 
-pub fn print_compiled(c: compiler::Compiled) {
-    match c {
+pub fn print_compiled(compiled: compiler::Compiled) {
+    match compiled {
         compiler::Compiled::Records(records) => {
             print(b"records ");
             print_number(records as u64);
         }
-        compiler::Compiled::Declined(reason) => print_declined(reason),
+        compiler::Compiled::Declined(why) => print_declined(why),
         compiler::Compiled::NoRoom => print_refused(compiler::NO_ROOM, 0),
     }
 }
 
-pub fn print_logger(d: score::Decision) {
-    match d {
+pub fn print_logger(decision: score::Decision) {
+    match decision {
         score::Decision::Yes => print(b"yes"),
         score::Decision::No => print(b"no"),
         score::Decision::Declined(why) => print_declined(why),
     }
 }
 
-fn print_exact(x: score::Exact) {
+fn print_exact(exact: score::Exact) {
     print(b"score ");
-    print_signed(x.hundredths);
+    print_signed(exact.hundredths);
     print(b" ");
-    print_number(x.remainder);
+    print_number(exact.remainder);
 }
 
-pub fn print_score(e: score::Evaluation) {
-    match e {
-        score::Evaluation::Score(x) => print_exact(x),
+pub fn print_score(evaluation: score::Evaluation) {
+    match evaluation {
+        score::Evaluation::Score(exact) => print_exact(exact),
         score::Evaluation::Declined(why) => print_declined(why),
     }
 }

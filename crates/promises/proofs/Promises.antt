@@ -10,7 +10,7 @@ use Rattle.peal.proofs.InsideLaws.{minimal-sets-decide, order-does-not-matter, 
 use Rattle.peal.proofs.MaskLaws.{masks-decide}
 use Rattle.translation.proofs.RecordCount.{records-are-few}
 use Rattle.translation.proofs.MeetingLaws.{meeting-is-having, quiet-is-meeting}
-use Rattle.book.proofs.RangeLaws.{read-in-range}
+use Rattle.book.proofs.BoundedLaws.{read-in-range}
 use Rattle.book.proofs.OldBookLaws.{old-books}
 use Rattle.score.proofs.ShownTells.{shown-tells}
 use Rattle.agreement.proofs.Policies.{lines-agreement, quiet-agreement, policy-agreement}

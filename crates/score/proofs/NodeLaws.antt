@@ -15,8 +15,8 @@ use Rattle.peal.specs.Policies.{Policy, MinMax, smaller, larger, Expression, po
 use Rattle.peal.specs.Score.{ofTwo, policyScore, score}
 use Rattle.text.specs.Codes.{codeOf, codesOf}
 use Rattle.text.proofs.CodeLaws.{nodeOf, join-code, value-code, codes-nodes, code-node}
-use Rattle.score.specs.Pairs.{Is, choiceMeaning}
-use Rattle.score.specs.ExpressionScores.{noScore, HeldBelow, Holds, Underway}
+use Rattle.score.specs.Pairs.{Is, minMaxMeaning}
+use Rattle.score.specs.ExpressionScores.{noScore, HeldBelow, HoldsScores, Underway}
 use Rattle.score.specs.declared.exact.Exact.{Exact}
 use Rattle.score.proofs.WaitingLaws.{held-count, one-more, last-but-one, joined-into-one, one-left}
 
@@ -25,7 +25,7 @@ Nodes = List (Node MinMax ℕ)
 
 -- ---- the node of a code
 
-choice-of : (m : MinMax) → choiceMeaning (eqb (codeOf (joining m)) 1) ≡ m
+choice-of : (m : MinMax) → minMaxMeaning (eqb (codeOf (joining m)) 1) ≡ m
 unfolding codeOf
 choice-of smaller = refl
 choice-of larger = refl
@@ -39,11 +39,11 @@ module _ (e : Expression) (i : ℕ) (h : i < length (codesOf e)) (code : ℕ) (t
       let ns = postfix e in
       drop-cons ns i (joining smaller) (omega (arith, codes-nodes e)) ∙ ap₂ (λ (x : Node MinMax ℕ) (j : ℕ). x ∷ drop j ns) f (sym (add-one i))
 
-  pub join-here : code < 2 → drop i (postfix e) ≡ joining (choiceMeaning (eqb code 1)) ∷ drop (i + 1) (postfix e)
+  pub join-here : code < 2 → drop i (postfix e) ≡ joining (minMaxMeaning (eqb code 1)) ∷ drop (i + 1) (postfix e)
   join-here l =
       let j = join-code (nodeOf e i) (omega (arith, node-code)) in
-      here (joining (choiceMeaning (eqb code 1)))
-      (j .1 ∙ ap (λ (m : MinMax). joining m) (sym (ap (λ (x : ℕ). choiceMeaning (eqb x 1)) (node-code ∙ ap codeOf (j .1)) ∙ choice-of (j .0))))
+      here (joining (minMaxMeaning (eqb code 1)))
+      (j .1 ∙ ap (λ (m : MinMax). joining m) (sym (ap (λ (x : ℕ). minMaxMeaning (eqb x 1)) (node-code ∙ ap codeOf (j .1)) ∙ choice-of (j .0))))
 
   pub value-here : 2 ≤ code → drop i (postfix e) ≡ value (code - 2) ∷ drop (i + 1) (postfix e)
   value-here l = here (value (code - 2)) (value-code (nodeOf e i) (omega (arith, node-code)) ∙ ap (λ (x : ℕ). value (x - 2)) (sym node-code))
@@ -106,7 +106,7 @@ module _ (ps : List Policy) (set : ℕ) (e : Expression) where
       unfolding run joinedLast
       after-join a b x f = go (u .values) (u .held) (enough-joined .0) (enough-joined .1) (u .few) (sym (ap (λ (ns : Nodes). run ofTwo worth ns (u .values)) here) ∙ u .same)
         where
-          go : (vs : List ℤ) → Holds s h vs → 2 ≤ length vs → LeavesOne (drop (i + 1) (postfix e)) (length vs - 1) → length vs ≤ i
+          go : (vs : List ℤ) → HoldsScores s h vs → 2 ≤ length vs → LeavesOne (drop (i + 1) (postfix e)) (length vs - 1) → length vs ≤ i
               → run ofTwo worth (joining j ∷ drop (i + 1) (postfix e)) vs ≡ score ps set e ∷ [] → Underway ps set e (i + 1) (put s (h - 2) x) (h - 1)
           go [] k l m c g = absurd (omega arith)
           go (w ∷ []) k l m c g = absurd (omega arith)

@@ -15,7 +15,7 @@ use borrow.Author.Tests.{leb-true, le-leb, ltb-true, lt-ltb}
 use Rattle.arith.proofs.Order.{above, under, leZ-le, le-leZ, ltZ-lt, lt-ltZ, ltZ-not, above-scale, under-scale, sum-parts}
 use Rattle.arith.proofs.Tests.{same-answer, clash}
 use Rattle.peal.specs.Score.{scaled, ofTwo}
-use Rattle.score.specs.Pairs.{Is, ordered, choiceMeaning}
+use Rattle.score.specs.Pairs.{Is, ordered, minMaxMeaning}
 use Rattle.score.specs.declared.exact.Exact.{Exact}
 
 -- a score in parts, from its pair, as naturals
@@ -72,7 +72,7 @@ module _ (x y : Exact) (v w : ℤ) (i : Is x v) (j : Is y w) where
 
 -- the smaller or the larger of two, by their order
 pub choice-by : (x y : Exact) (v w : ℤ) → Is x v → Is y w → (m inOrder : Bool) → inOrder ≡ ordered true v w
-    → Is (cond inOrder (cond m y x) (cond m x y)) (ofTwo (choiceMeaning m) v w)
+    → Is (cond inOrder (cond m y x) (cond m x y)) (ofTwo (minMaxMeaning m) v w)
 unfolding ofTwo ordered
 choice-by x y v w i j true true h = subst (λ (b : Bool). Is y (cond b w v)) h j
 choice-by x y v w i j false true h = subst (λ (b : Bool). Is x (cond b v w)) h i

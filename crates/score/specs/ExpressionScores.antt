@@ -21,13 +21,13 @@ HeldBelow cells h [] = h ≡ 0
 HeldBelow cells h (v ∷ vs) = (0 < h) × Is (getD cells (h - 1) noScore) v × HeldBelow cells (h - 1) vs
 
 -- sixteen cells, of which those below the height are these scores
-abbrev pub Holds : List Exact → ℕ → List ℤ → Type 0
-Holds cells h vs = (length cells ≡ 16) × HeldBelow cells h vs
+abbrev pub HoldsScores : List Exact → ℕ → List ℤ → Type 0
+HoldsScores cells h vs = (length cells ≡ 16) × HeldBelow cells h vs
 
 -- before node i of an expression: what waits is enough, and leads to the score
 pub record Underway (ps : List Policy) (set : ℕ) (e : Expression) (i : ℕ) (cells : List Exact) (height : ℕ) : Type 0 where
   pub values : List ℤ
-  pub held : Holds cells height values
+  pub held : HoldsScores cells height values
   pub enough : LeavesOne (drop i (postfix e)) (length values)
   pub few : length values ≤ i
   pub same : run ofTwo (λ k. policyScore set (policyAt ps k)) (drop i (postfix e)) values ≡ score ps set e ∷ []

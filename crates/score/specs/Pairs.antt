@@ -26,6 +26,6 @@ ordered true v w = leZ v w
 ordered false v w = ltZ v w
 
 -- the smaller or the larger, from the code's flag
-abbrev pub choiceMeaning : Bool → MinMax
-choiceMeaning false = smaller
-choiceMeaning true = larger
+abbrev pub minMaxMeaning : Bool → MinMax
+minMaxMeaning false = smaller
+minMaxMeaning true = larger

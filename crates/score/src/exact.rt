@@ -3,7 +3,7 @@ ghost use mathlib.Core.Path.{_≡_};
 ghost use Prim.Native.Nat.{_-_, _^_, _≤_};
 ghost use lib.IntN.{pos, _*ℤ_};
 ghost use Rattle.peal.specs.Score.{scaled, ofTwo, meets as meetsOf};
-ghost use Rattle.score.specs.Pairs.{Is, ForScore, ForScores, ordered, choiceMeaning};
+ghost use Rattle.score.specs.Pairs.{Is, ForScore, ForScores, ordered, minMaxMeaning};
 
 // A score: hundredths, and a remainder in parts, of which a hundredth has 10 to the 14.
 pub struct Exact {
@@ -66,7 +66,7 @@ fn in_order(one: Exact, two: Exact, equal: bool) -> bool
 
 // The smaller of two scores, or the larger.
 pub fn chosen(larger: bool, one: Exact, two: Exact) -> Exact
-    ensures { λ r. ⌜ ForScores one two (λ v w. Is r (ofTwo (choiceMeaning larger) v w)) ⌝ }
+    ensures { λ r. ⌜ ForScores one two (λ v w. Is r (ofTwo (minMaxMeaning larger) v w)) ⌝ }
 {
     if in_order(one, two, true) {
         if larger { two } else { one }

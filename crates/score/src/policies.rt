@@ -4,12 +4,12 @@ use crate::exact::of_product;
 use crate::exact::whole;
 ghost use mathlib.Core.Path.{_≡_};
 ghost use Prim.Native.Nat.{_^_, _≤_, _<_};
-ghost use lib.ListN.{length, getD};
+ghost use lib.ListN.{getD};
 ghost use lib.Signed.{mag};
 ghost use Rattle.peal.specs.Standins.{noRule};
 ghost use Rattle.peal.specs.Score.{presentRules, policyScore};
 ghost use Rattle.book.specs.Cells.{ForPolicy};
-ghost use Rattle.book.specs.Ranges.{PolicyKept};
+ghost use Rattle.book.specs.Ranges.{PolicyKept, RuleKept};
 ghost use Rattle.score.specs.Pairs.{Is};
 ghost use Rattle.score.specs.PolicyScores.{ruleScore, scoredMeaning, presentOf, withScore};
 
@@ -21,7 +21,7 @@ enum Scored {
 
 // Rule i of policy k on the set.
 fn rule_score(cells: &book::Cells, k: usize, i: usize, set: u16) -> Scored
-    requires { ⌜ ((h : PolicyKept (now cells) k) × (i < length (h .policy .rules))) ⌝ }
+    requires { ⌜ RuleKept (now cells) k i ⌝ }
     ensures { λ r. ⌜ ForPolicy (now (cells .entry)) k
         (λ p. scoredMeaning r ≡ ruleScore set (getD (p .rules) i noRule)) ⌝ }
 {

@@ -40,19 +40,19 @@ unfoldable mutual
   leadingExpression zero s = none
   leadingExpression (suc k) s = cond (begins mentionWord s) (mention (drop (length mentionWord) s)) (do
     m ← leadingJoin s
-    (a, b, t) ← leadingPair k (drop (length (minMaxWord m)) s)
-    some (join m a b, t))
+    (a, b, rest) ← leadingPair k (drop (length (minMaxWord m)) s)
+    some (join m a b, rest))
 
   -- `(E,E)` at the front of s: the two, and the bytes after it
   pub leadingPair : ℕ → List ℕ → Option (Expression × Expression × List ℕ)
   leadingPair zero s = none
   leadingPair (suc k) s = do
-    t ← after (bytes "(") s
-    (a, u) ← leadingExpression k t
-    v ← after (bytes ",") u
-    (b, w) ← leadingExpression k v
-    x ← after (bytes ")") w
-    some (a, b, x)
+    opened ← after (bytes "(") s
+    (a, atComma) ← leadingExpression k opened
+    second ← after (bytes ",") atComma
+    (b, atEnd) ← leadingExpression k second
+    rest ← after (bytes ")") atEnd
+    some (a, b, rest)
 
 -- nothing stands after the expression
 unfoldable pub nothingAfter : Option (Expression × List ℕ) → Option Expression

@@ -8,31 +8,31 @@ ghost use Rattle.text.specs.Numbers.{isDigit};
 ghost use Rattle.text.specs.Expressions.{digitCount};
 ghost use Rattle.text.specs.Spelling.{upTo};
 
-// The place of the first byte x at or after `at`, or the end.
-pub fn next_byte(s: &[u8], at: usize, x: u8) -> usize
-    requires { ⌜ at ≤ length (now s) ⌝ }
-    ensures { λ r. ⌜ r ≡ at + upTo x (drop at (now (s .entry))) ⌝ }
+// The place of the first such byte at or after `at`, or the end.
+fn next_byte(bytes: &[u8], at: usize, byte: u8) -> usize
+    requires { ⌜ at ≤ length (now bytes) ⌝ }
+    ensures { λ r. ⌜ r ≡ at + upTo byte (drop at (now (bytes .entry))) ⌝ }
 {
-    let n = s.len();
+    let n = bytes.len();
     let mut i = at;
     // Four at a time: the test of the end costs as much as the byte's.
     while i + 4 <= n {
-        if s[i] == x {
+        if bytes[i] == byte {
             return i;
         }
-        if s[i + 1] == x {
+        if bytes[i + 1] == byte {
             return i + 1;
         }
-        if s[i + 2] == x {
+        if bytes[i + 2] == byte {
             return i + 2;
         }
-        if s[i + 3] == x {
+        if bytes[i + 3] == byte {
             return i + 3;
         }
         i += 4;
     }
     while i < n {
-        if s[i] == x {
+        if bytes[i] == byte {
             return i;
         }
         i += 1;
@@ -48,17 +48,25 @@ pub fn field_end(line: &[u8], at: usize) -> usize
     next_byte(line, at, b' ')
 }
 
+// The end of the line that begins at `at`: the next byte 10, or the end.
+pub fn line_end(book: &[u8], at: usize) -> usize
+    requires { ⌜ at ≤ length (now book) ⌝ }
+    ensures { λ r. ⌜ r ≡ at + upTo 10 (drop at (now (book .entry))) ⌝ }
+{
+    next_byte(book, at, b'\n')
+}
+
 // The word stands at `at`.
-pub fn begins(s: &[u8], at: usize, word: &[u8]) -> bool
-    ensures { λ r. ⌜ r ≡ beginsWith (now (word .entry)) (drop at (now (s .entry))) ⌝ }
+pub fn begins(bytes: &[u8], at: usize, word: &[u8]) -> bool
+    ensures { λ r. ⌜ r ≡ beginsWith (now (word .entry)) (drop at (now (bytes .entry))) ⌝ }
 {
     let mut i = 0;
     let mut j = at;
     while i < word.len() {
-        if s.len() <= j {
+        if bytes.len() <= j {
             return false;
         }
-        if s[j] != word[i] {
+        if bytes[j] != word[i] {
             return false;
         }
         i += 1;
@@ -67,14 +75,14 @@ pub fn begins(s: &[u8], at: usize, word: &[u8]) -> bool
     true
 }
 
-// The byte x stands at `at`.
-pub fn has_byte(s: &[u8], at: usize, x: u8) -> bool
-    ensures { λ r. ⌜ r ≡ beginsWith (x ∷ []) (drop at (now (s .entry))) ⌝ }
+// The byte stands at `at`.
+pub fn has_byte(bytes: &[u8], at: usize, byte: u8) -> bool
+    ensures { λ r. ⌜ r ≡ beginsWith (byte ∷ []) (drop at (now (bytes .entry))) ⌝ }
 {
-    if s.len() <= at {
+    if bytes.len() <= at {
         return false;
     }
-    s[at] == x
+    bytes[at] == byte
 }
 
 // The field is the word.
@@ -95,13 +103,13 @@ pub fn is_digit(byte: u8) -> bool
 }
 
 // The end of the digits that stand at `at`.
-pub fn digits_end(s: &[u8], at: usize) -> usize
-    requires { ⌜ at ≤ length (now s) ⌝ }
-    ensures { λ r. ⌜ r ≡ at + digitCount (drop at (now (s .entry))) ⌝ }
+pub fn digits_end(bytes: &[u8], at: usize) -> usize
+    requires { ⌜ at ≤ length (now bytes) ⌝ }
+    ensures { λ r. ⌜ r ≡ at + digitCount (drop at (now (bytes .entry))) ⌝ }
 {
     let mut i = at;
-    while i < s.len() {
-        if !is_digit(s[i]) {
+    while i < bytes.len() {
+        if !is_digit(bytes[i]) {
             return i;
         }
         i += 1;

@@ -6,7 +6,7 @@ mod keywords;
 mod lines;
 mod numbers;
 
-pub use bytes::next_byte;
+pub use bytes::line_end;
 pub use expressions::CODE_COUNT;
 pub use expressions::MAX_CODE;
 pub use expressions::POLICY_CODE;

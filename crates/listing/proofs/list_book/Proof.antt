@@ -4,7 +4,7 @@ use native.Mathlib.Omega.{arith}
 use borrow.Author.Needs.{needs}
 use denote.Ref.{now}
 use Rattle.book.specs.Meaning.{checkedMeaning}
-use Rattle.book.proofs.RangeLaws.{read-in-range}
+use Rattle.book.proofs.BoundedLaws.{read-in-range}
 use Rattle.book.proofs.ReadLaws.{checked-result}
 use Rattle.listing.proofs.list_book.Statement.{statement}
 use Rattle.listing.proofs.list_book.Tie as tie

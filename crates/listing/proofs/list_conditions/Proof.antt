@@ -7,10 +7,10 @@ use Rattle.listing.proofs.list_conditions.Statement.{statement}
 use Rattle.listing.proofs.list_conditions.Tie as tie
 
 abbrev Inv-loop : tie.InvT-loop
-Inv-loop bytes conditions words₀ k₀ words k = length words ≡ 16384
+Inv-loop bytes conditions words₀ n₀ words n = length words ≡ 16384
 
 abbrev μ-loop : tie.MeasureT-loop
-μ-loop bytes conditions words₀ k₀ words k = conditions - k
+μ-loop bytes conditions words₀ n₀ words n = conditions - n
 
 pub list-conditions-spec : {M : Type 1} → statement M
 list-conditions-spec =

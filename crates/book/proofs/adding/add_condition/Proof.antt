@@ -10,7 +10,7 @@ use Rattle.text.specs.Codes.{HoldsCodes}
 use Rattle.text.specs.Forms.{condition}
 use Rattle.book.specs.Acceptance.{BookSoFar}
 use Rattle.book.specs.SoFar.{Holds}
-use Rattle.book.specs.Judged.{after, Judged}
+use Rattle.book.specs.Judged.{withLine, Judged}
 use Rattle.book.specs.declared.acceptance.Verdict.{Verdict}
 use Rattle.book.specs.declared.acceptance.Verdict.the-variants.{Fine}
 use Rattle.book.proofs.SoFarLaws.{policies-is, conditions-is}
@@ -67,7 +67,7 @@ returns-2 c =
     let m = c .before .before in
     let s = begin m in
     λ e k n so h.
-    step-added n _ (after so (condition _ _ e)) _ _ (judged (m .before .before) so e h k Fine (m .enum-told .given .1) n) (condition-left so (h .left) _ _ e)
+    step-added n _ (withLine so (condition _ _ e)) _ _ (judged (m .before .before) so e h k Fine (m .enum-told .given .1) n) (condition-left so (h .left) _ _ e)
     (condition-cells _ so _ _ _ e (toZ-ofZ w32 (s .args .threshold) (s .fits .threshold)) (c .put-condition .ensures e k (so .book) (h .held) (h .bounded .range) (conditions-is so (h .left))))
 
 pub add-condition-spec : {M : Type 1} → statement M

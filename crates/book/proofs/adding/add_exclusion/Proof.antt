@@ -4,7 +4,7 @@ use denote.Ref.{now}
 use Rattle.text.specs.Forms.{exclusion}
 use Rattle.book.specs.Acceptance.{BookSoFar}
 use Rattle.book.specs.SoFar.{Holds}
-use Rattle.book.specs.Judged.{after, Judged}
+use Rattle.book.specs.Judged.{withLine, Judged}
 use Rattle.book.specs.declared.acceptance.Verdict.{Verdict}
 use Rattle.book.specs.declared.acceptance.Verdict.the-variants.{Fine}
 use Rattle.book.proofs.SoFarLaws.{exclusions-so-far}
@@ -45,7 +45,7 @@ returns-2 : tie.Need-returns-2
 returns-2 c =
     let m = c .before .before in
     λ n so h.
-    step-added n _ (after so (exclusion _ _)) _ _ (judged (m .before .before) so h Fine (m .enum-told .given .1) n) (exclusion-left so (h .left) _ _)
+    step-added n _ (withLine so (exclusion _ _)) _ _ (judged (m .before .before) so h Fine (m .enum-told .given .1) n) (exclusion-left so (h .left) _ _)
     (exclusion-cells _ so _ _ (c .put-exclusion .ensures (so .book) (h .held) (h .bounded .range) tt))
 
 pub add-exclusion-spec : {M : Type 1} → statement M

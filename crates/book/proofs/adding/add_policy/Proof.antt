@@ -5,7 +5,7 @@ use native.Mathlib.Omega.{arith}
 use mir.Syntax.{w32}
 use mir.ValLaws.{toZ-ofZ}
 use Rattle.text.specs.Forms.{policy}
-use Rattle.book.specs.Judged.{after}
+use Rattle.book.specs.Judged.{withLine}
 use Rattle.book.proofs.SoFarLaws.{policies-is}
 use Rattle.book.proofs.AddingLaws.{step-refused, step-added, judged-as, some-default, policy-room, policy-left, policy-cells}
 use borrow.Author.Needs.{needs}
@@ -48,7 +48,7 @@ returns-2 c =
     let j = m .before .before in
     let s = j .before in
     λ n so d h z g.
-    step-added n _ (after so (policy _ d)) _ _ (judged-as so (policy _ d) _ _ (m .enum-told .given .1) (j .judge-policy .ensures so _ d (h .left) g) n) (policy-left so (h .left) _ d)
+    step-added n _ (withLine so (policy _ d)) _ _ (judged-as so (policy _ d) _ _ (m .enum-told .given .1) (j .judge-policy .ensures so _ d (h .left) g) n) (policy-left so (h .left) _ d)
     (policy-cells _ so _ d _ (toZ-ofZ w32 (s .args .default) (s .fits .default) ∙ z) (c .put-policy .ensures (so .book) (h .held) (h .bounded .range) (policies-is so (h .left))))
 
 pub add-policy-spec : {M : Type 1} → statement M

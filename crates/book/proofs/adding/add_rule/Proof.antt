@@ -8,7 +8,7 @@ use mir.ValLaws.{toZ-ofZ}
 use Rattle.text.specs.Forms.{rule}
 use Rattle.book.specs.Acceptance.{BookSoFar}
 use Rattle.book.specs.SoFar.{Holds}
-use Rattle.book.specs.Judged.{after, Judged}
+use Rattle.book.specs.Judged.{withLine, Judged}
 use Rattle.book.specs.declared.acceptance.Verdict.{Verdict}
 use Rattle.book.specs.declared.acceptance.Verdict.the-variants.{Fine}
 use Rattle.book.proofs.SoFarLaws.{policies-is, some-policy, last-kept}
@@ -65,7 +65,7 @@ returns-2 c =
     let s = begin m in
     λ n so h.
     let v = fine m so h in
-    step-added n _ (after so (rule _ _)) _ _ (v n) (rule-left so (h .left) _ _ v)
+    step-added n _ (withLine so (rule _ _)) _ _ (v n) (rule-left so (h .left) _ _ v)
     (rule-cells _ so _ _ _ (toZ-ofZ w32 (s .args .score) (s .fits .score))
     (c .put-rule .ensures (so .book) (h .held) (h .bounded .range) (omega (arith, policies-is so (h .left), some-policy h (follows m)))))
 

@@ -4,13 +4,13 @@ use mathlib.Core.Path.{sym, ap}
 use borrow.Author.Needs.{needs}
 use Rattle.answers.specs.Answers.{Answer, result, onResult}
 use Rattle.book.specs.Books.{Counts}
-use Rattle.book.specs.Adding.{stepMeaning, countsOf}
+use Rattle.book.specs.Adding.{addedMeaning, countsOf}
 use Rattle.book.specs.declared.adding.Step.{Step}
 use Rattle.book.proofs.reading.answer_after.Statement.{statement}
 use Rattle.book.proofs.reading.answer_after.Tie as tie
 
 abbrev told : ℕ → Step → Answer Counts
-told line step = onResult (stepMeaning line step) (λ state. result (countsOf state))
+told line step = onResult (addedMeaning line step) (λ state. result (countsOf state))
 
 enum-known-step : tie.Need-enum-known-step
 enum-known-step c = search needs

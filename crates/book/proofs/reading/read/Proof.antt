@@ -22,15 +22,15 @@ abbrev μ-loop : tie.MeasureT-loop
 μ-loop bytes cells₀ size state₀ at₀ line₀ cells state at line = length bytes - at
 
 -- where the line ends
-module _ (c : tie.After-next-byte Inv-loop μ-loop) where
+module _ (c : tie.After-line-end Inv-loop μ-loop) where
   abbrev turn : tie.At-loop Inv-loop μ-loop
   turn = c .before .before
 
   abbrev text : List ℕ
   text = now (turn .before .before .before .before .before .before .args .bytes)
 
-  line-within : c .next-byte .result ≤ length text
-  line-within = end-within 10 text (turn .loop .at) _ (omega arith) (c .next-byte .ensures)
+  line-within : c .line-end .result ≤ length text
+  line-within = end-within 10 text (turn .loop .at) _ (omega arith) (c .line-end .ensures)
 
 book-fits-requires : tie.Need-book-fits-requires Inv-loop μ-loop
 book-fits-requires c κs = search needs
@@ -53,14 +53,14 @@ put-nothing-requires c κs = search needs
 loop-holds : tie.Need-loop-holds Inv-loop μ-loop
 loop-holds c = (omega arith, going-first _ _ (short (c .before .before)) (c .put-nothing .ensures))
 
-next-byte-requires : tie.Need-next-byte-requires Inv-loop μ-loop
-next-byte-requires c κs = omega arith
+line-end-requires : tie.Need-line-end-requires Inv-loop μ-loop
+line-end-requires c κs = omega arith
 
 sub-add-line : tie.Need-sub-add-line Inv-loop μ-loop
-sub-add-line c = omega (arith, c .before .next-byte .ensures)
+sub-add-line c = omega (arith, c .before .line-end .ensures)
 
 part-add-line-start : tie.Need-part-add-line-start Inv-loop μ-loop
-part-add-line-start c = omega (arith, c .before .next-byte .ensures)
+part-add-line-start c = omega (arith, c .before .line-end .ensures)
 
 part-add-line-end : tie.Need-part-add-line-end Inv-loop μ-loop
 part-add-line-end c = line-within (c .before)
@@ -87,7 +87,7 @@ returns-2 c =
     let r = m .enum-told .given in
     let t = k .add-line in
     tells-refusal (text x) (r .0 .0) (l .loop .line) (c .answer-after2 .result) _ _
-    (going-refused (text x) (l .loop .at) (l .loop .line) _ _ _ g (x .before .loop-test .taken) (x .next-byte .ensures) (t .result) _ (t .ensures (l .loop .line) (g .so) (g .held) refl) (r .0 .0) (r .1))
+    (going-refused (text x) (l .loop .at) (l .loop .line) _ _ _ g (x .before .loop-test .taken) (x .line-end .ensures) (t .result) _ (t .ensures (l .loop .line) (g .so) (g .held) refl) (r .0 .0) (r .1))
     (r .1) (c .answer-after2 .ensures)
 
 add-at : tie.Need-add-at Inv-loop μ-loop
@@ -99,7 +99,7 @@ add-line c = let x = c .before .before .before .before .before .before in let l 
 loop-less : tie.Need-loop-less Inv-loop μ-loop
 loop-less c =
     let x = c .before .before .before .before .before .before in
-    omega (arith, line-within x, x .next-byte .ensures, x .before .loop-test .taken)
+    omega (arith, line-within x, x .line-end .ensures, x .before .loop-test .taken)
 
 loop-again : tie.Need-loop-again Inv-loop μ-loop
 loop-again c =
@@ -109,8 +109,8 @@ loop-again c =
     let l = turn x in
     let g = l .loop .inv .1 in
     let t = k .add-line in (
-      omega (arith, l .loop .inv .0, x .next-byte .ensures),
-      going-on (text x) (l .loop .at) (l .loop .line) _ _ _ g (x .before .loop-test .taken) (x .next-byte .ensures) (t .result) _ (t .ensures (l .loop .line) (g .so) (g .held) refl) _ (m .step .given .1),
+      omega (arith, l .loop .inv .0, x .line-end .ensures),
+      going-on (text x) (l .loop .at) (l .loop .line) _ _ _ g (x .before .loop-test .taken) (x .line-end .ensures) (t .result) _ (t .ensures (l .loop .line) (g .so) (g .held) refl) _ (m .step .given .1),
     )
 
 answer-after-requires-3 : tie.Need-answer-after-requires-3 Inv-loop μ-loop
@@ -130,7 +130,7 @@ read-spec =
     returns
     put-nothing-requires
     loop-holds
-    next-byte-requires
+    line-end-requires
     sub-add-line
     part-add-line-start
     part-add-line-end

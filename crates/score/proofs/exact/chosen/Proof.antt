@@ -3,7 +3,7 @@ use mathlib.Core.Bool.{Bool, cond}
 use mathlib.Core.Path.{_≡_, sym, subst, _∙_}
 use borrow.Author.Needs.{needs}
 use Rattle.peal.specs.Score.{ofTwo}
-use Rattle.score.specs.Pairs.{Is, ForScores, choiceMeaning}
+use Rattle.score.specs.Pairs.{Is, ForScores, minMaxMeaning}
 use Rattle.score.proofs.PairLaws.{choice-by}
 use Rattle.score.proofs.exact.chosen.Statement.{statement}
 use Rattle.score.proofs.exact.chosen.Tie as tie
@@ -13,10 +13,10 @@ in-order-requires c κs = search needs
 
 -- by the two tests
 by-tests : (c : tie.After-in-order) (m inOrder : Bool) → c .before .args .larger ≡ m → c .in-order .result ≡ inOrder → let a = c .before .args in
-    ForScores (a .one) (a .two) (λ v w. Is (cond inOrder (cond m (a .two) (a .one)) (cond m (a .one) (a .two))) (ofTwo (choiceMeaning (a .larger)) v w))
+    ForScores (a .one) (a .two) (λ v w. Is (cond inOrder (cond m (a .two) (a .one)) (cond m (a .one) (a .two))) (ofTwo (minMaxMeaning (a .larger)) v w))
 by-tests c m inOrder l e v w i j =
     let a = c .before .args in
-    subst (λ (x : Bool). Is (cond inOrder (cond m (a .two) (a .one)) (cond m (a .one) (a .two))) (ofTwo (choiceMeaning x) v w)) (sym l)
+    subst (λ (x : Bool). Is (cond inOrder (cond m (a .two) (a .one)) (cond m (a .one) (a .two))) (ofTwo (minMaxMeaning x) v w)) (sym l)
     (choice-by (a .one) (a .two) v w i j m inOrder (sym e ∙ c .in-order .ensures v w i j))
 
 returns : tie.Need-returns

@@ -14,7 +14,7 @@ use Rattle.text.specs.Codes.{codesOf}
 use Rattle.book.specs.Ranges.{ConditionKept}
 use Rattle.book.proofs.CellLaws.{condition-held, codes-few, mention-held, mention-kept}
 use Rattle.text.proofs.CodeLaws.{codes-nodes}
-use Rattle.score.specs.Pairs.{choiceMeaning}
+use Rattle.score.specs.Pairs.{minMaxMeaning}
 use Rattle.score.specs.ExpressionScores.{noScore, Underway}
 use Rattle.score.specs.declared.exact.Exact.{Exact}
 use Rattle.score.proofs.NodeLaws.{join-here, value-here, at-start, value-room, after-value, join-room, after-join, at-end}
@@ -58,7 +58,7 @@ module _ (c : tie.Then1 Inv-loop μ-loop) where
 
   joined : (h : ConditionKept (now (start turn .args .cells)) (start turn .args .n))
       → drop (turn .loop .i) (postfix (h .condition .expression))
-      ≡ joining (choiceMeaning (eqb (c .before .code-at .result) 1)) ∷ drop (turn .loop .i + 1) (postfix (h .condition .expression))
+      ≡ joining (minMaxMeaning (eqb (c .before .code-at .result) 1)) ∷ drop (turn .loop .i + 1) (postfix (h .condition .expression))
   joined h =
       join-here (h .condition .expression) (turn .loop .i) (omega (arith, c .before .before .loop-test .taken, codes turn h)) (c .before .code-at .result)
       (c .before .code-at .ensures (h .condition) (condition-held h)) (c .if1 .taken)

@@ -23,7 +23,7 @@ returns : tie.Need-returns Inv-loop μ-loop
 returns c =
     let l = c .before .before in
     let a = l .before .args in
-    sym (word-cut (now (a .word)) (now (a .s)) (l .loop .i) (l .loop .j) (c .before .loop-test .taken) (c .if1 .taken)) ∙ l .loop .inv .1
+    sym (word-cut (now (a .word)) (now (a .bytes)) (l .loop .i) (l .loop .j) (c .before .loop-test .taken) (c .if1 .taken)) ∙ l .loop .inv .1
 
 shared-slice-read-if2 : tie.Need-shared-slice-read-if2 Inv-loop μ-loop
 shared-slice-read-if2 c = omega arith
@@ -35,7 +35,7 @@ returns-2 : tie.Need-returns-2 Inv-loop μ-loop
 returns-2 c =
     let l = c .before .before .before .before .before in
     let a = l .before .args in
-    sym (word-differs (now (a .word)) (now (a .s)) (l .loop .i) (l .loop .j) (c .before .before .before .before .loop-test .taken) (c .before .before .before .if1 .left) (c .if2 .taken)) ∙ l .loop .inv .1
+    sym (word-differs (now (a .word)) (now (a .bytes)) (l .loop .i) (l .loop .j) (c .before .before .before .before .loop-test .taken) (c .before .before .before .if1 .left) (c .if2 .taken)) ∙ l .loop .inv .1
 
 add-i : tie.Need-add-i Inv-loop μ-loop
 add-i c = omega arith
@@ -51,14 +51,14 @@ loop-again c =
     let l = c .before .before .before .before .before in
     let a = l .before .args in (
       omega arith,
-      sym (word-more (now (a .word)) (now (a .s)) (l .loop .i) (l .loop .j) (c .before .before .before .before .loop-test .taken) (c .before .before .before .if1 .left) (c .if2 .left)) ∙ l .loop .inv .1,
+      sym (word-more (now (a .word)) (now (a .bytes)) (l .loop .i) (l .loop .j) (c .before .before .before .before .loop-test .taken) (c .before .before .before .if1 .left) (c .if2 .left)) ∙ l .loop .inv .1,
     )
 
 returns-3 : tie.Need-returns-3 Inv-loop μ-loop
 returns-3 c =
     let l = c .before in
     let a = l .before .args in
-    sym (word-whole (now (a .word)) (now (a .s)) (l .loop .i) (l .loop .j) (c .loop-test .left)) ∙ l .loop .inv .1
+    sym (word-whole (now (a .word)) (now (a .bytes)) (l .loop .i) (l .loop .j) (c .loop-test .left)) ∙ l .loop .inv .1
 
 pub begins-spec : {M : Type 1} → statement M
 begins-spec =

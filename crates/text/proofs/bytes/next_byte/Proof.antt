@@ -31,7 +31,7 @@ add-loop c = search needs
 
 -- after j bytes of a turn none of them is x
 abbrev None : tie.At-loop Inv-loop μ-loop Inv-loop2 μ-loop2 → ℕ → Type 0
-None l j = let a = l .before .args in NoneUpTo (a .x) (now (a .s)) (a .at) (l .loop .i + j)
+None l j = let a = l .before .args in NoneUpTo (a .byte) (now (a .bytes)) (a .at) (l .loop .i + j)
 
 none-1 : (c : tie.Else1 Inv-loop μ-loop Inv-loop2 μ-loop2) → None (c .before .before .before) 1
 none-1 c =
