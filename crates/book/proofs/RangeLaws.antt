@@ -20,7 +20,6 @@ use Rattle.peal.specs.Policies.{Rule, Policy, Exclusion, Condition, Book, polic
 use Rattle.peal.specs.declared.Operator.{Operator}
 use Rattle.peal.specs.declared.Operator.the-variants.{Min, Max, Sum, Mul}
 use Rattle.limits.specs.Limits.{exclusionInRange, thresholdInRange}
-use Rattle.text.specs.Forms.{policy, condition}
 use Rattle.book.specs.Acceptance.{lastPolicy, roomForRule, within, defaultInRange, scoreInRange, mentionsBelow, missingDefault, defaultOf, noRules, withRule, withPolicies, withPolicy, withLast, withExclusion, withCondition}
 use Rattle.book.specs.Ranges.{signalsOf, PolicyInRange, ExclusionInRange, ConditionInRange, BookInRange}
 

@@ -17,7 +17,7 @@ use Rattle.signals.specs.Sets.{isSet, inside}
 use Rattle.layout.specs.Records.{Record, records, Kind, policy, line, exclusion, kindOf, isLine, kinds, unknown}
 use Rattle.layout.specs.Judgement.{SoFar, noRecord, insidePolicy, keepsLayout, soFarAfter, judged, verdict}
 use Rattle.layout.specs.Nodes.{ListedNode, leadingLines, nodeThen, nodes, pairThen, excluded}
-use Rattle.layout.specs.WellFormed.{ListedTree, LinesFit, TreeFits, ArePairs, PairsFit, WellFormed}
+use Rattle.layout.specs.WellFormed.{ListedTree, LinesFit, TreeFits, ArePairs, PairsFit, WellFormed, TreeOf}
 use Rattle.layout.proofs.KeptLaws.{kept-line, sound-step, sound-judged, kept-policy, kept-join, kept-exclusion}
 
 -- ---- pairs
@@ -100,13 +100,6 @@ AllFit (t ∷ ts) = TreeFits t × AllFit ts
 abbrev policiesIn : List ListedTree → ℕ
 policiesIn [] = 0
 policiesIn (t ∷ ts) = policiesIn ts + leafCount t
-
--- a tree that fits, of at most 16 policies, with these nodes
-pub record TreeOf (ns : List ListedNode) : Type 0 where
-  pub tree : ListedTree
-  pub fits : TreeFits tree
-  pub atMost : leafCount tree ≤ 16
-  pub same : ns ≡ postfix tree
 
 grow : (ns : List ListedNode) (ts : List ListedTree) (v p : ℕ) → length ts ≡ v → policiesIn ts ≡ p → p ≤ 16 → AllFit ts → WellFormed v p ns → TreeOf (stacked ts ++ ns)
 unfolding postfix leafCount

@@ -123,7 +123,7 @@ some-words n [] r rest = words-whole r rest
 some-words n (pair ∷ pairs) r rest = words-whole _ _
 
 -- the listing of some pairs and well-formed nodes is sound
-pub listing-sound : (pairs : List ℕ) (ns : List ListedNode) → PairsFit pairs → WellFormed 0 0 ns → verdict (words (listing pairs ns)) ≡ result tt
+listing-sound : (pairs : List ℕ) (ns : List ListedNode) → PairsFit pairs → WellFormed 0 0 ns → verdict (words (listing pairs ns)) ≡ result tt
 unfolding verdict listing noRecord
 listing-sound pairs [] g h = absurd (omega arith)
 listing-sound pairs (x ∷ ns) g h =

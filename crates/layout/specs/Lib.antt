@@ -2,6 +2,7 @@ pub mod Records
 pub mod Judgement
 pub mod Nodes
 pub mod WellFormed
+pub mod SoundListings
 pub mod Meaning
 pub mod Steps
 pub mod Writing

@@ -5,7 +5,8 @@ use mathlib.Core.List.{List, [], _∷_}
 use mathlib.Core.Path.{_≡_}
 use lib.ListN.{length}
 use Rattle.arith.specs.Members.{Each}
-use Rattle.arith.specs.Trees.{Tree, leaf, join, value, joining}
+use Rattle.arith.specs.Trees.{Tree, leaf, join, value, joining, postfix}
+use Rattle.arith.specs.Leaves.{leafCount}
 use Rattle.signals.specs.Sets.{inside, isPair}
 use Rattle.layout.specs.Records.{Join}
 use Rattle.layout.specs.Nodes.{ListedPolicy, ListedNode}
@@ -28,6 +29,13 @@ ListedTree = Tree Join ListedPolicy
 abbrev pub TreeFits : ListedTree → Type 0
 TreeFits (leaf p) = PolicyFits p
 TreeFits (join j a b) = TreeFits a × TreeFits b
+
+-- a tree that fits, of at most 16 policies, with these nodes
+pub record TreeOf (ns : List ListedNode) : Type 0 where
+  pub tree : ListedTree
+  pub fits : TreeFits tree
+  pub atMost : leafCount tree ≤ 16
+  pub same : ns ≡ postfix tree
 
 -- each of these masks is a set of exactly two signals
 abbrev pub ArePairs : List ℕ → Type 0

@@ -1,10 +1,12 @@
 -- Equality is on the published side, for every operator and both senses: a score that equals T is not above T, and is at most T.
 use Prim.Native.Nat.{ℕ}
 use mathlib.Core.Bool.{true, not}
+use mathlib.Core.List.{[]}
 use mathlib.Core.Path.{_≡_, refl, ap, _∙_}
 use lib.IntN.{ℤ, +ℤ-idr}
 use Rattle.arith.proofs.Order.{ltZ-not, leZ-refl, scale-scale}
 use Rattle.signals.specs.Sets.{present}
+use Rattle.peal.specs.Policies.{Policy}
 use Rattle.peal.specs.Score.{scaled, presentRules, total, scoreProduct, scaledProduct, ofAll, applied, scoreOf, policyScore, meets}
 use Rattle.peal.specs.EqualityIsPublished.{equalMeets, oneRule, EqualityIsPublished}
 use Rattle.peal.specs.declared.Operator.{Operator}
@@ -25,6 +27,15 @@ one-score Max d signal v set here = rw here refl
 one-score Sum d signal v set here = rw (here, +ℤ-idr v) refl
 one-score Mul d signal v set here = rw here (scale-scale v 1 100000000000000)
 
+-- where no rule is present, a policy scores its default
+default-score : (p : Policy) (set : ℕ) → presentRules set (p .rules) ≡ [] → policyScore set p ≡ scaled (p .default)
+unfolding policyScore scoreOf
+default-score p set none = rw none refl
+
 pub equality-is-published : EqualityIsPublished
 equality-is-published =
-    record { ofScores = equal-meets; ofPolicies = λ op d signal v set here s. ap (meets s v) (one-score op d signal v set here) ∙ equal-meets s v }
+    record {
+      ofScores = equal-meets;
+      ofPolicies = λ op d signal v set here s. ap (meets s v) (one-score op d signal v set here) ∙ equal-meets s v;
+      ofDefaults = λ p set none s. ap (meets s (p .default)) (default-score p set none) ∙ equal-meets s (p .default);
+    }

@@ -6,7 +6,7 @@ use mathlib.Core.Path.{_≡_}
 use lib.IntN.{ℤ}
 use Rattle.signals.specs.Sets.{present}
 use Rattle.peal.specs.Policies.{Policy}
-use Rattle.peal.specs.Score.{scaled, policyScore, meets}
+use Rattle.peal.specs.Score.{scaled, presentRules, policyScore, meets}
 use Rattle.peal.specs.declared.Operator.{Operator}
 use Rattle.peal.specs.declared.Sense.{Sense}
 use Rattle.peal.specs.declared.Sense.the-variants.{Above, AtMost}
@@ -26,3 +26,5 @@ pub record EqualityIsPublished : Type 0 where
   -- so of a policy of one rule, on a set where its signal is present, whatever the default
   pub ofPolicies : (op : Operator) (d : ℤ) (signal : ℕ) (v : ℤ) (set : ℕ) → present set signal ≡ true
       → (s : Sense) → meets s v (policyScore set (oneRule op d signal v)) ≡ equalMeets s
+  -- and of the default of any policy, on a set where no rule is present
+  pub ofDefaults : (p : Policy) (set : ℕ) → presentRules set (p .rules) ≡ [] → (s : Sense) → meets s (p .default) (policyScore set p) ≡ equalMeets s

@@ -1,4 +1,5 @@
 -- Each promise is the law of its name.
+use Rattle.layout.proofs.SoundListings.{sound-listings}
 use Rattle.rod.proofs.SingleCalls.{single-calls}
 use Rattle.checks.proofs.OnePass.{one-pass}
 use Rattle.peal.proofs.Equality.{equality-is-published}
@@ -38,6 +39,7 @@ promises =
       premises = same-lines-premises;
       nothingLost = nothing-lost;
       inRange = read-in-range;
+      listings = sound-listings;
       sound = compiled-sound;
       words = words-fit;
       records = records-are-few;

@@ -4,6 +4,7 @@ use Prim.Native.Nat.{ℕ}
 use mathlib.Core.List.{List}
 use mathlib.Core.Path.{_≡_}
 use Rattle.answers.specs.Answers.{result}
+use Rattle.layout.specs.SoundListings.{SoundListings}
 use Rattle.rod.specs.SingleCalls.{SingleCalls}
 use Rattle.checks.specs.OnePass.{OnePass}
 use Rattle.peal.specs.Policies.{Book}
@@ -43,7 +44,7 @@ pub record Promises : Type 0 where
 
   -- demand 3: of every accepted book, each condition and each set, rod and logger say the same, and the lines are the minimal sets
   pub demand3 : Demand3
-  -- a score that equals T is on the published side
+  -- a score that equals T is on the published side, that of a rule or of a default
   pub equality : EqualityIsPublished
   -- books from before change request 2 are read as they were: as they are, with an `o` above, or with their zeros written
   pub oldBooks : OldBooks
@@ -65,6 +66,8 @@ pub record Promises : Type 0 where
 
   -- every accepted book keeps to the limits and ranges
   pub inRange : (bytes : List ℕ) (b : Book) → read bytes ≡ result b → BookInRange b
+  -- a sound listing is that of its pairs and its tree, word for word, and such listings are sound
+  pub listings : SoundListings
   -- what compiling leaves is sound
   pub sound : CompiledSound
   -- its words fit 32 bits

@@ -7,7 +7,7 @@ use lib.IntN.{ℤ}
 use lib.Signed.{leZ, ltZ}
 use Rattle.arith.specs.Lists.{exists}
 use Rattle.arith.proofs.Order.{ltZ-not, leZ-scale, ltZ-scale}
-use Rattle.peal.specs.Policies.{Rule, Policy, smaller, larger}
+use Rattle.peal.specs.Policies.{Rule, smaller, larger}
 use Rattle.peal.specs.Score.{scaled, total, ofAll, applied, scoreOf, meets}
 use Rattle.peal.specs.Lines.{has}
 use Rattle.translation.specs.Translation.{quiet, turned}
@@ -17,8 +17,6 @@ use Rattle.peal.specs.declared.Operator.{Operator}
 use Rattle.peal.specs.declared.Operator.the-variants.{Min, Max, Sum, Mul}
 use Rattle.peal.specs.declared.Sense.{Sense}
 use Rattle.peal.specs.declared.Sense.the-variants.{Above, AtMost}
-use Rattle.peal.specs.EqualityIsPublished.{equalMeets}
-use Rattle.peal.proofs.Equality.{equality-is-published}
 use Rattle.peal.proofs.TwoLaws.{not-ltZ, larger-above, smaller-at-most}
 
 -- the order in parts is the order in hundredths
@@ -87,8 +85,3 @@ meeting-is-having p s t r rs = having t (p .operator) s r rs
 pub quiet-is-meeting : QuietIsMeeting
 unfolding quiet scoreOf
 quiet-is-meeting p s t = refl
-
--- a default that equals T is quiet on the published side
-pub quiet-at-threshold : (p : Policy) (s : Sense) → quiet s (p .default) p ≡ equalMeets s
-unfolding quiet
-quiet-at-threshold p s = equality-is-published .ofScores s (p .default)
