@@ -41,9 +41,9 @@ enum Step {
 }
 
 // A policy whose words must name the record `line` as its first line and `node` as the next node.
-fn policy_step(r: Record, so: SoFar, line: usize, node: usize) -> Step
-    requires { ⌜ so .values ≤ so .policies ⌝ }
-    ensures { λ s. ⌜ stepMeaning s ≡ policyStep (recordMeaning r) (soFarMeaning so) line node ⌝ }
+fn policy_step(r: Record, above: SoFar, line: usize, node: usize) -> Step
+    requires { ⌜ above .values ≤ above .policies ⌝ }
+    ensures { λ s. ⌜ stepMeaning s ≡ policyStep (recordMeaning r) (soFarMeaning above) line node ⌝ }
 {
     if r.mask > signals::HIGHEST_SET {
         return Step::Breaks;
@@ -54,33 +54,33 @@ fn policy_step(r: Record, so: SoFar, line: usize, node: usize) -> Step
     if r.next as usize != node {
         return Step::Breaks;
     }
-    if so.policies >= MOST_POLICIES {
+    if above.policies >= MOST_POLICIES {
         return Step::Breaks;
     }
     Step::Next(SoFar {
         owned: true,
         mask: r.mask as u16,
-        values: so.values + 1,
-        policies: so.policies + 1,
+        values: above.values + 1,
+        policies: above.policies + 1,
     })
 }
 
 // A line's set lies inside its policy's mask; where it belongs to no policy, it does not.
-fn in_policy(so: SoFar, mask: u32) -> bool
-    ensures { λ r. ⌜ r ≡ insidePolicy mask (soFarMeaning so .policyMask) ⌝ }
+fn in_policy(above: SoFar, mask: u32) -> bool
+    ensures { λ r. ⌜ r ≡ insidePolicy mask (soFarMeaning above .policyMask) ⌝ }
 {
-    if so.owned {
-        signals::lies_inside(mask, so.mask)
+    if above.owned {
+        signals::lies_inside(mask, above.mask)
     } else {
         false
     }
 }
 
 // A line whose words must name the record `line` as the next.
-fn line_step(r: Record, so: SoFar, line: usize) -> Step
-    ensures { λ s. ⌜ stepMeaning s ≡ lineStep (recordMeaning r) (soFarMeaning so) line ⌝ }
+fn line_step(r: Record, above: SoFar, line: usize) -> Step
+    ensures { λ s. ⌜ stepMeaning s ≡ lineStep (recordMeaning r) (soFarMeaning above) line ⌝ }
 {
-    if !in_policy(so, r.mask) {
+    if !in_policy(above, r.mask) {
         return Step::Breaks;
     }
     if r.lines != 0 {
@@ -89,12 +89,12 @@ fn line_step(r: Record, so: SoFar, line: usize) -> Step
     if r.next as usize != line {
         return Step::Breaks;
     }
-    Step::Next(so)
+    Step::Next(above)
 }
 
 // A join whose words must name the record `after` as the next.
-fn join_step(r: Record, so: SoFar, after: usize) -> Step
-    ensures { λ s. ⌜ stepMeaning s ≡ joinStep (recordMeaning r) (soFarMeaning so) after ⌝ }
+fn join_step(r: Record, above: SoFar, after: usize) -> Step
+    ensures { λ s. ⌜ stepMeaning s ≡ joinStep (recordMeaning r) (soFarMeaning above) after ⌝ }
 {
     if r.mask != 0 {
         return Step::Breaks;
@@ -105,23 +105,23 @@ fn join_step(r: Record, so: SoFar, after: usize) -> Step
     if r.next as usize != after {
         return Step::Breaks;
     }
-    if so.values < JOINED {
+    if above.values < JOINED {
         return Step::Breaks;
     }
     Step::Next(SoFar {
         owned: false,
         mask: 0,
-        values: so.values - 1,
-        policies: so.policies,
+        values: above.values - 1,
+        policies: above.policies,
     })
 }
 
 // Record n, a pair of signals that never occur together, whose words must name the record `after` as the next; 0 if there is
 // none.
-fn exclusion_step(r: Record, so: SoFar, n: usize, after: usize) -> Step
-    ensures { λ s. ⌜ stepMeaning s ≡ exclusionStep n (recordMeaning r) (soFarMeaning so) after ⌝ }
+fn exclusion_step(r: Record, above: SoFar, n: usize, after: usize) -> Step
+    ensures { λ s. ⌜ stepMeaning s ≡ exclusionStep n (recordMeaning r) (soFarMeaning above) after ⌝ }
 {
-    if so.policies != 0 {
+    if above.policies != 0 {
         return Step::Breaks;
     }
     if n > MOST_EXCLUSIONS {
@@ -142,8 +142,8 @@ fn exclusion_step(r: Record, so: SoFar, n: usize, after: usize) -> Step
     Step::Next(SoFar {
         owned: false,
         mask: 0,
-        values: so.values,
-        policies: so.policies,
+        values: above.values,
+        policies: above.policies,
     })
 }
 
@@ -229,22 +229,22 @@ fn after_lines(words: &[u32], node: usize) -> usize
 }
 
 // The judgement of the record at index i; `end` is where its sound lines end.
-fn step_at(words: &[u32], i: usize, so: SoFar, end: usize) -> Step
-    requires { ⌜ (i * 4 + 4 ≤ length (now words)) × (so .values ≤ so .policies) × AfterLines (now words) i end ⌝ }
-    ensures { λ s. ⌜ stepMeaning s ≡ stepAt (now (words .entry)) i (soFarMeaning so) ⌝ }
+fn step_at(words: &[u32], i: usize, above: SoFar, end: usize) -> Step
+    requires { ⌜ (i * 4 + 4 ≤ length (now words)) × (above .values ≤ above .policies) × AfterLines (now words) i end ⌝ }
+    ensures { λ s. ⌜ stepMeaning s ≡ stepAt (now (words .entry)) i (soFarMeaning above) ⌝ }
 {
     let r = record_at(words, i);
-    let k = kind_of(r.kind);
-    match k {
-        Kind::Line => line_step(r, so, if_line(words, i + 1)),
-        Kind::And => join_step(r, so, if_any(words, i + 1)),
-        Kind::Or => join_step(r, so, if_any(words, i + 1)),
+    let kind = kind_of(r.kind);
+    match kind {
+        Kind::Line => line_step(r, above, if_line(words, i + 1)),
+        Kind::And => join_step(r, above, if_any(words, i + 1)),
+        Kind::Or => join_step(r, above, if_any(words, i + 1)),
         Kind::Policy {
             quiet: _,
             turned: _,
-        } => { policy_step(r, so, if_line(words, i + 1), next_node(words, end)) }
+        } => { policy_step(r, above, if_line(words, i + 1), next_node(words, end)) }
         Kind::Unknown => Step::Breaks,
-        Kind::Exclusion => exclusion_step(r, so, i + 1, if_any(words, i + 1)),
+        Kind::Exclusion => exclusion_step(r, above, i + 1, if_any(words, i + 1)),
     }
 }
 
@@ -258,7 +258,7 @@ pub fn check(words: &[u32]) -> Verdict
     if len % RECORD_WORDS != 0 {
         return Verdict::Declined(Fault::Length);
     }
-    let mut so = SoFar {
+    let mut above = SoFar {
         owned: false,
         mask: 0,
         values: 0,
@@ -267,13 +267,13 @@ pub fn check(words: &[u32]) -> Verdict
     let mut i: usize = 0;
     while i < len / RECORD_WORDS {
         let end = after_lines(words, i);
-        let Step::Next(next) = step_at(words, i, so, end) else {
+        let Step::Next(next) = step_at(words, i, above, end) else {
             return Verdict::Declined(Fault::Record(i + 1));
         };
-        so = next;
+        above = next;
         i = end;
     }
-    if so.values == 1 {
+    if above.values == 1 {
         Verdict::Sound
     } else {
         Verdict::Declined(Fault::Record(i))

@@ -51,17 +51,17 @@ pub enum Kind {
     Unknown,
 }
 
-pub fn kind_of(k: u32) -> Kind
-    ensures { λ r. ⌜ kindMeaning r ≡ kindOf k ⌝ }
+pub fn kind_of(number: u32) -> Kind
+    ensures { λ r. ⌜ kindMeaning r ≡ kindOf number ⌝ }
 {
-    match k {
+    match number {
         LINE => Kind::Line,
         AND => Kind::And,
         OR => Kind::Or,
         EXCLUSION => Kind::Exclusion,
         POLICY..=LAST_POLICY => Kind::Policy {
-            quiet: k & QUIET != 0,
-            turned: k & TURNED != 0,
+            quiet: number & QUIET != 0,
+            turned: number & TURNED != 0,
         },
         _ => Kind::Unknown,
     }

@@ -42,18 +42,18 @@ struct Present {
 }
 
 // One present rule more.
-fn with_score(operator: peal::Operator, so: Present, score: i64) -> Present
-    requires { ⌜ (so .count < 16) × (mag (withScore operator so score .value) ≤ 10 ^ 16) ⌝ }
-    ensures { λ r. ⌜ r ≡ withScore operator so score ⌝ }
+fn with_score(operator: peal::Operator, earlier: Present, score: i64) -> Present
+    requires { ⌜ (earlier .count < 16) × (mag (withScore operator earlier score .value) ≤ 10 ^ 16) ⌝ }
+    ensures { λ r. ⌜ r ≡ withScore operator earlier score ⌝ }
 {
-    let count = so.count;
+    let count = earlier.count;
     if count == 0 {
         Present {
             count: 1,
             value: score,
         }
     } else {
-        let value = so.value;
+        let value = earlier.value;
         Present {
             count: count + 1,
             value: peal::combined(operator, score, value),
@@ -68,7 +68,7 @@ fn present_rules(cells: &book::Cells, k: usize, set: u16) -> Present
 {
     let operator = book::operator_at(cells, k);
     let default = book::default_at(cells, k);
-    let mut so = Present {
+    let mut present = Present {
         count: 0,
         value: default as i64,
     };
@@ -77,10 +77,10 @@ fn present_rules(cells: &book::Cells, k: usize, set: u16) -> Present
         i -= 1;
         let scored = rule_score(cells, k, i, set);
         if let Scored::Present(score) = scored {
-            so = with_score(operator, so, score);
+            present = with_score(operator, present, score);
         }
     }
-    so
+    present
 }
 
 // The score of policy k: with no rule present the default, otherwise the operator over the present rules alone.
@@ -88,9 +88,9 @@ pub fn policy_score(cells: &book::Cells, k: usize, set: u16) -> Exact
     requires { ⌜ PolicyKept (now cells) k ⌝ }
     ensures { λ r. ⌜ ForPolicy (now (cells .entry)) k (λ p. Is r (policyScore set p)) ⌝ }
 {
-    let so = present_rules(cells, k, set);
-    let count = so.count;
-    let value = so.value;
+    let present = present_rules(cells, k, set);
+    let count = present.count;
+    let value = present.value;
     if count == 0 {
         return whole(value);
     }

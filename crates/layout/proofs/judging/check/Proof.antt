@@ -11,10 +11,10 @@ use Rattle.layout.proofs.judging.check.Statement.{statement}
 use Rattle.layout.proofs.judging.check.Tie as tie
 
 abbrev Inv-loop : tie.InvT-loop
-Inv-loop words len so₀ i₀ so i = (so .values ≤ so .policies) × (judged i (soFarMeaning so) (recordsFrom words i) ≡ verdict words)
+Inv-loop words len above₀ i₀ above i = (above .values ≤ above .policies) × (judged i (soFarMeaning above) (recordsFrom words i) ≡ verdict words)
 
 abbrev μ-loop : tie.MeasureT-loop
-μ-loop words len so₀ i₀ so i = length words / 4 - i
+μ-loop words len above₀ i₀ above i = length words / 4 - i
 
 returns : tie.Need-returns Inv-loop μ-loop
 returns c = no-words _ (omega arith)

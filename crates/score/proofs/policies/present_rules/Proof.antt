@@ -20,11 +20,11 @@ use Rattle.score.proofs.policies.present_rules.Statement.{statement}
 use Rattle.score.proofs.policies.present_rules.Tie as tie
 
 abbrev Inv-loop : tie.InvT-loop
-Inv-loop cells k set operator default so₀ i₀ so i =
-    (q : Policy) → PolicyCells cells k q → (i ≤ length (q .rules)) × (so ≡ presentOf q (presentRules set (drop i (q .rules))))
+Inv-loop cells k set operator default present₀ i₀ present i =
+    (q : Policy) → PolicyCells cells k q → (i ≤ length (q .rules)) × (present ≡ presentOf q (presentRules set (drop i (q .rules))))
 
 abbrev μ-loop : tie.MeasureT-loop
-μ-loop cells k set operator default so₀ i₀ so i = i
+μ-loop cells k set operator default present₀ i₀ present i = i
 
 operator-at-requires : tie.Need-operator-at-requires Inv-loop μ-loop
 operator-at-requires c κs = c .pre
@@ -71,14 +71,14 @@ counted : (c : tie.After-known-told Inv-loop μ-loop) →
     let m = c .before .before in
     let l = m .before .before .before in
     (q : Policy) → PolicyCells (now (start l .args .cells)) (start l .args .k) q
-    → withScore (l .before .before .before .operator-at .result) (l .loop .so) (toZ w64 (ofZ w64 (c .before .scored .given .0 .0)))
+    → withScore (l .before .before .before .operator-at .result) (l .loop .present) (toZ w64 (ofZ w64 (c .before .scored .given .0 .0)))
     ≡ presentOf q (presentRules (start l .args .set) (drop (l .loop .i - 1) (q .rules)))
 counted c q e =
     let m = c .before .before in
     let l = m .before .before .before in
     let z : toZ w64 (ofZ w64 (c .before .scored .given .0 .0)) ≡ c .before .scored .given .0 .0 = search needs in
-    ap (withScore (l .before .before .before .operator-at .result) (l .loop .so)) z
-    ∙ turn-present q (start l .args .set) (l .loop .i) (m .before .before .loop-test .taken) (l .loop .inv q e .0) (l .loop .so) (l .loop .inv q e .1)
+    ap (withScore (l .before .before .before .operator-at .result) (l .loop .present)) z
+    ∙ turn-present q (start l .args .set) (l .loop .i) (m .before .before .loop-test .taken) (l .loop .inv q e .0) (l .loop .present) (l .loop .inv q e .1)
     (l .before .before .before .operator-at .result) (l .before .before .before .operator-at .ensures q e)
     (c .before .scored .given .0 .0) (ap scoredMeaning (sym (c .before .scored .given .1)) ∙ m .before .rule-score .ensures q e)
 
@@ -88,7 +88,7 @@ with-score-requires c κs =
     let s = start l in
     let h = s .pre in
     let q = h .policy in
-    let a : l .loop .so .count < 16 =
+    let a : l .loop .present .count < 16 =
     omega (arith, ap (λ (x : Present). x .count) (l .loop .inv q (h .held) .1), present-count-small (s .args .set) q (h .range) (l .loop .i) (c .before .before .before .before .loop-test .taken)) in
     (a, omega (arith, ap (λ (x : Present). mag (x .value)) (counted c q (h .held)), present-value-small (s .args .set) q (h .range) (l .loop .i - 1)))
 
@@ -112,7 +112,7 @@ loop-again-2 c =
     let l = m .before .before .before in
     λ q e. (
       omega (arith, l .loop .inv q e .0),
-      turn-absent q (start l .args .set) (l .loop .i) (m .before .before .loop-test .taken) (l .loop .inv q e .0) (l .loop .so) (l .loop .inv q e .1)
+      turn-absent q (start l .args .set) (l .loop .i) (m .before .before .loop-test .taken) (l .loop .inv q e .0) (l .loop .present) (l .loop .inv q e .1)
           (ap scoredMeaning (sym (c .enum-told .given .1)) ∙ m .before .rule-score .ensures q e),
     )
 
