@@ -8,28 +8,10 @@ use Rattle.agreement.proofs.BothLaws.{both-refused, both-said, both-hel
 use Rattle.agreement.proofs.ask_both.Statement.{statement}
 use Rattle.agreement.proofs.ask_both.Tie as tie
 
-compile-requires : tie.Need-compile-requires
-compile-requires c κs = search needs
-
-enum-known-answer : tie.Need-enum-known-answer
-enum-known-answer c = search needs
-
 read-compiled-requires : tie.Need-read-compiled-requires
 read-compiled-requires c κs =
     let a = c .before .before in
     omega (arith, returned-from (a .before .before .before .before .compile .ensures) (a .answer .given .1) .room)
-
-decide-requires : tie.Need-decide-requires
-decide-requires c κs = search needs
-
-enum-known-answer-2 : tie.Need-enum-known-answer-2
-enum-known-answer-2 c = search needs
-
-enum-told : tie.Need-enum-told
-enum-told c = search needs
-
-same-length : tie.Need-same-length
-same-length c = search needs
 
 returns : tie.Need-returns
 returns c =
@@ -44,35 +26,20 @@ returns c =
     let scored = c .decide .ensures in
     (both-said _ _ _ _ _ e _ left rod logger read scored, (left, both-held _ _ _ _ _ e _ left rod logger read scored))
 
-same-length-2 : tie.Need-same-length-2
-same-length-2 c = search needs
-
 returns-2 : tie.Need-returns-2
 returns-2 c =
     let x = c .before .before .before .before .before in
     (both-refused _ _ _ _ _ _ (in-arm compiledMeaning (x .compile .ensures .returning) (c .before .answer2 .given .1)), (x .compile .ensures .leaving, tt))
-
-same-length-3 : tie.Need-same-length-3
-same-length-3 c = search needs
 
 returns-3 : tie.Need-returns-3
 returns-3 c =
     let x = c .before .before .before .before in
     (both-refused _ _ _ _ _ _ (in-arm compiledMeaning (x .compile .ensures .returning) (c .enum-told .given .1)), (x .compile .ensures .leaving, tt))
 
+-- the other needs are found by search
 pub ask-both-spec : {M : Type 1} → statement M
 ask-both-spec =
     tie.close
     (tie.spec
-    compile-requires
-    enum-known-answer
-    read-compiled-requires
-    decide-requires
-    enum-known-answer-2
-    enum-told
-    same-length
-    returns
-    same-length-2
-    returns-2
-    same-length-3
-    returns-3)
+    (λ c κs. search needs) (λ c. search needs) read-compiled-requires (λ c κs. search needs) (λ c. search needs)
+    (λ c. search needs) (λ c. search needs) returns (λ c. search needs) returns-2 (λ c. search needs) returns-3)

@@ -11,14 +11,8 @@ use Rattle.compiler.specs.Compiling.{compiledListing}
 use Rattle.agreement.proofs.read_compiled.Statement.{statement}
 use Rattle.agreement.proofs.read_compiled.Tie as tie
 
-mul-end : tie.Need-mul-end
-mul-end c = search needs
-
 slice-aggregate-decide : tie.Need-slice-aggregate-decide
 slice-aggregate-decide c = sym (length-take-le _ _ (omega arith))
-
-decide-requires : tie.Need-decide-requires
-decide-requires c κs = search needs
 
 -- a record has four words
 first-words : (n : ℕ) (ws : List ℕ) → take (n * 4) ws ≡ compiledListing n ws
@@ -30,5 +24,6 @@ returns c =
     let s = c .before .before .before in
     c .decide .ensures ∙ ap (λ (ws : List ℕ). rodAnswer ws (s .args .set)) (first-words (s .args .records) _)
 
+-- the other needs are found by search
 pub read-compiled-spec : {M : Type 1} → statement M
-read-compiled-spec = tie.close (tie.spec mul-end slice-aggregate-decide decide-requires returns)
+read-compiled-spec = tie.close (tie.spec (λ c. search needs) slice-aggregate-decide (λ c κs. search needs) returns)

@@ -12,12 +12,6 @@ use borrow.Author.Needs.{needs}
 use Rattle.exports.proofs.cerahupo_check.Statement.{statement}
 use Rattle.exports.proofs.cerahupo_check.Tie as tie
 
-check-requires : tie.Need-check-requires
-check-requires c κs = search needs
-
-enum-known-answer : tie.Need-enum-known-answer
-enum-known-answer c = search needs
-
 small : (c : tie.After-answer) → (c .answer .given .0 .0 ≤ 16) × (c .answer .given .0 .1 .0 ≤ 8)
 small c = counts-small _ _ (in-arm checkedMeaning (c .before .before .check .ensures) (c .answer .given .1))
 
@@ -30,9 +24,6 @@ add-value c = let h = small (c .before) in omega arith
 accepted-requires : tie.Need-accepted-requires
 accepted-requires c κs = let h = small (c .before) in omega arith
 
-enum-known-answer-2 : tie.Need-enum-known-answer-2
-enum-known-answer-2 c = search needs
-
 refused-book-requires : tie.Need-refused-book-requires
 refused-book-requires c κs = omega (arith, in-table (checking _) (in-arm checkedMeaning (c .before .before .before .check .ensures) (c .before .answer2 .given .1)))
 
@@ -44,16 +35,10 @@ returns-2 : tie.Need-returns-2
 unfolding packed
 returns-2 c = let a = c .before .before in c .refused-book .ensures ∙ ap (packed countsValue) (in-arm checkedMeaning (a .before .before .check .ensures) (a .answer2 .given .1))
 
+-- the other needs are found by search
 pub cerahupo-check-spec : {M : Type 1} → statement M
 cerahupo-check-spec =
     tie.close
     (tie.spec
-    check-requires
-    enum-known-answer
-    mul-value
-    add-value
-    accepted-requires
-    enum-known-answer-2
-    refused-book-requires
-    returns
-    returns-2)
+    (λ c κs. search needs) (λ c. search needs) mul-value add-value accepted-requires (λ c. search needs)
+    refused-book-requires returns returns-2)

@@ -11,20 +11,11 @@ use Rattle.exports.proofs.Results.{chosen-fits}
 use Rattle.exports.proofs.cerahupo_choice.Statement.{statement}
 use Rattle.exports.proofs.cerahupo_choice.Tie as tie
 
-choice-requires : tie.Need-choice-requires
-choice-requires c κs = search needs
-
-enum-known-answer : tie.Need-enum-known-answer
-enum-known-answer c = search needs
-
 accepted-choice-requires : tie.Need-accepted-choice-requires
 accepted-choice-requires c κs =
     let a = c .before in
     let f = chosen-fits _ _ (in-arm choiceMeaning (a .before .before .choice .ensures) (a .answer .given .1)) in
     (omega arith, f .some, f .few)
-
-enum-known-answer-2 : tie.Need-enum-known-answer-2
-enum-known-answer-2 c = search needs
 
 accepted-choice-requires-2 : tie.Need-accepted-choice-requires-2
 accepted-choice-requires-2 c κs =
@@ -32,17 +23,11 @@ accepted-choice-requires-2 c κs =
     let f = chosen-fits _ _ (in-arm choiceMeaning (a .before .before .choice .ensures) (a .answer2 .given .1)) in
     (omega arith, f .some, f .few)
 
-enum-known-answer-3 : tie.Need-enum-known-answer-3
-enum-known-answer-3 c = search needs
-
 accepted-both-requires : tie.Need-accepted-both-requires
 accepted-both-requires c κs =
     let a = c .before in
     let f = chosen-fits _ _ (in-arm choiceMeaning (a .before .before .choice .ensures) (a .answer3 .given .1)) in
     (f .some, f .few)
-
-enum-known-answer-4 : tie.Need-enum-known-answer-4
-enum-known-answer-4 c = search needs
 
 refused-listing-requires : tie.Need-refused-listing-requires
 refused-listing-requires c κs = let d = c .before .before .before in omega (arith, d .before .before .good, in-table (choosing _) (in-arm choiceMeaning (d .choice .ensures) (c .before .answer4 .given .1)))
@@ -63,20 +48,11 @@ returns-4 : tie.Need-returns-4
 unfolding packed
 returns-4 c = let a = c .before .before in c .refused-listing .ensures ∙ ap (packed chosenValue) (in-arm choiceMeaning (a .before .before .choice .ensures) (a .answer4 .given .1))
 
+-- the other needs are found by search
 pub cerahupo-choice-spec : {M : Type 1} → statement M
 cerahupo-choice-spec =
     tie.close
     (tie.spec
-    choice-requires
-    enum-known-answer
-    accepted-choice-requires
-    enum-known-answer-2
-    accepted-choice-requires-2
-    enum-known-answer-3
-    accepted-both-requires
-    enum-known-answer-4
-    refused-listing-requires
-    returns
-    returns-2
-    returns-3
-    returns-4)
+    (λ c κs. search needs) (λ c. search needs) accepted-choice-requires (λ c. search needs) accepted-choice-requires-2
+    (λ c. search needs) accepted-both-requires (λ c. search needs) refused-listing-requires returns returns-2
+    returns-3 returns-4)

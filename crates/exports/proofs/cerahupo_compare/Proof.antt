@@ -10,38 +10,11 @@ use borrow.Author.Needs.{needs}
 use Rattle.exports.proofs.cerahupo_compare.Statement.{statement}
 use Rattle.exports.proofs.cerahupo_compare.Tie as tie
 
-compare-requires : tie.Need-compare-requires
-compare-requires c κs = search needs
-
-enum-told : tie.Need-enum-told
-enum-told c = search needs
-
-accepted-requires : tie.Need-accepted-requires
-accepted-requires c κs = search needs
-
-enum-known-answer : tie.Need-enum-known-answer
-enum-known-answer c = search needs
-
-accepted-difference-requires : tie.Need-accepted-difference-requires
-accepted-difference-requires c κs = search needs
-
-enum-known-answer-2 : tie.Need-enum-known-answer-2
-enum-known-answer-2 c = search needs
-
-accepted-difference-requires-2 : tie.Need-accepted-difference-requires-2
-accepted-difference-requires-2 c κs = search needs
-
-enum-known-answer-3 : tie.Need-enum-known-answer-3
-enum-known-answer-3 c = search needs
-
 second : (r number value : ℕ) → r ≡ asOne number value → r + secondHigher ≡ asOne (ofSecond number) value
 second r number value e = omega arith
 
 refused-listing-requires : tie.Need-refused-listing-requires
 refused-listing-requires c κs = let d = c .before .before .before in omega (arith, d .before .before .before .good, first-in-table _ _ (in-arm comparisonMeaning (d .compare .ensures) (c .before .answer3 .given .1)))
-
-enum-known-answer-4 : tie.Need-enum-known-answer-4
-enum-known-answer-4 c = search needs
 
 refused-listing-requires-2 : tie.Need-refused-listing-requires-2
 refused-listing-requires-2 c κs = let d = c .before .before .before in omega (arith, d .before .before .before .good, second-in-table _ _ (in-arm comparisonMeaning (d .compare .ensures) (c .before .answer4 .given .1)))
@@ -69,24 +42,11 @@ returns-5 : tie.Need-returns-5
 unfolding packedComparison
 returns-5 c = let a = c .before .before in second _ _ _ (c .refused-listing2 .ensures) ∙ ap packedComparison (in-arm comparisonMeaning (a .before .before .compare .ensures) (a .answer4 .given .1))
 
+-- the other needs are found by search
 pub cerahupo-compare-spec : {M : Type 1} → statement M
 cerahupo-compare-spec =
     tie.close
     (tie.spec
-    compare-requires
-    enum-told
-    accepted-requires
-    enum-known-answer
-    accepted-difference-requires
-    enum-known-answer-2
-    accepted-difference-requires-2
-    enum-known-answer-3
-    refused-listing-requires
-    enum-known-answer-4
-    refused-listing-requires-2
-    add-result
-    returns
-    returns-2
-    returns-3
-    returns-4
-    returns-5)
+    (λ c κs. search needs) (λ c. search needs) (λ c κs. search needs) (λ c. search needs) (λ c κs. search needs)
+    (λ c. search needs) (λ c κs. search needs) (λ c. search needs) refused-listing-requires (λ c. search needs)
+    refused-listing-requires-2 add-result returns returns-2 returns-3 returns-4 returns-5)

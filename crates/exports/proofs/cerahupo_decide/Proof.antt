@@ -11,24 +11,6 @@ use Rattle.exports.proofs.BookRefusals.{deciding}
 use Rattle.exports.proofs.cerahupo_decide.Statement.{statement}
 use Rattle.exports.proofs.cerahupo_decide.Tie as tie
 
-decide-requires : tie.Need-decide-requires
-decide-requires c κs = search needs
-
-enum-told : tie.Need-enum-told
-enum-told c = search needs
-
-accepted-requires : tie.Need-accepted-requires
-accepted-requires c κs = search needs
-
-enum-told-2 : tie.Need-enum-told-2
-enum-told-2 c = search needs
-
-accepted-requires-2 : tie.Need-accepted-requires-2
-accepted-requires-2 c κs = search needs
-
-enum-known-answer : tie.Need-enum-known-answer
-enum-known-answer c = search needs
-
 declined-requires : tie.Need-declined-requires
 declined-requires c κs = omega (arith, in-table (deciding _ _ _) (in-arm scoreMeaning (c .before .before .before .decide .ensures) (c .before .answer .given .1)))
 
@@ -44,17 +26,10 @@ returns-3 : tie.Need-returns-3
 unfolding packed
 returns-3 c = let a = c .before .before in c .declined .ensures ∙ ap (packed oneIf) (in-arm scoreMeaning (a .before .before .decide .ensures) (a .answer .given .1))
 
+-- the other needs are found by search
 pub cerahupo-decide-spec : {M : Type 1} → statement M
 cerahupo-decide-spec =
     tie.close
     (tie.spec
-    decide-requires
-    enum-told
-    accepted-requires
-    enum-told-2
-    accepted-requires-2
-    enum-known-answer
-    declined-requires
-    returns
-    returns-2
-    returns-3)
+    (λ c κs. search needs) (λ c. search needs) (λ c κs. search needs) (λ c. search needs) (λ c κs. search needs)
+    (λ c. search needs) declined-requires returns returns-2 returns-3)

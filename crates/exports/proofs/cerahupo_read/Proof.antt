@@ -11,24 +11,6 @@ use borrow.Author.Needs.{needs}
 use Rattle.exports.proofs.cerahupo_read.Statement.{statement}
 use Rattle.exports.proofs.cerahupo_read.Tie as tie
 
-decide-requires : tie.Need-decide-requires
-decide-requires c κs = search needs
-
-enum-told : tie.Need-enum-told
-enum-told c = search needs
-
-accepted-requires : tie.Need-accepted-requires
-accepted-requires c κs = search needs
-
-enum-told-2 : tie.Need-enum-told-2
-enum-told-2 c = search needs
-
-accepted-requires-2 : tie.Need-accepted-requires-2
-accepted-requires-2 c κs = search needs
-
-enum-known-answer : tie.Need-enum-known-answer
-enum-known-answer c = search needs
-
 refused-listing-requires : tie.Need-refused-listing-requires
 refused-listing-requires c κs = let d = c .before .before .before in omega (arith, d .before .before .good, in-table (rod-reading _ _) (in-arm rodMeaning (d .decide .ensures) (c .before .answer .given .1)))
 
@@ -44,17 +26,10 @@ returns-3 : tie.Need-returns-3
 unfolding packed
 returns-3 c = let a = c .before .before in c .refused-listing .ensures ∙ ap (packed oneIf) (in-arm rodMeaning (a .before .before .decide .ensures) (a .answer .given .1))
 
+-- the other needs are found by search
 pub cerahupo-read-spec : {M : Type 1} → statement M
 cerahupo-read-spec =
     tie.close
     (tie.spec
-    decide-requires
-    enum-told
-    accepted-requires
-    enum-told-2
-    accepted-requires-2
-    enum-known-answer
-    refused-listing-requires
-    returns
-    returns-2
-    returns-3)
+    (λ c κs. search needs) (λ c. search needs) (λ c κs. search needs) (λ c. search needs) (λ c κs. search needs)
+    (λ c. search needs) refused-listing-requires returns returns-2 returns-3)

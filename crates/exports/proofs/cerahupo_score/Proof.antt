@@ -17,12 +17,6 @@ use Rattle.exports.proofs.Results.{hundredths-natural}
 use Rattle.exports.proofs.cerahupo_score.Statement.{statement}
 use Rattle.exports.proofs.cerahupo_score.Tie as tie
 
-evaluate-requires : tie.Need-evaluate-requires
-evaluate-requires c κs = search needs
-
-enum-known-answer : tie.Need-enum-known-answer
-enum-known-answer c = search needs
-
 -- the hundredths, counted from the lowest
 module _ (c : tie.After-struct-told) where
   abbrev hundredths : ℤ
@@ -52,9 +46,6 @@ cast-value c = let (n, e, l) = counted c in natural-fits _ n (sum-back c ∙ e) 
 accepted-requires : tie.Need-accepted-requires
 accepted-requires c κs = let (n, e, l) = counted c in omega (arith, ap natAbs (sum-back c ∙ e))
 
-enum-known-answer-2 : tie.Need-enum-known-answer-2
-enum-known-answer-2 c = search needs
-
 declined-requires : tie.Need-declined-requires
 declined-requires c κs = omega (arith, in-table (scoring _ _ _) (in-arm shownMeaning (c .before .before .before .evaluate .ensures) (c .before .answer2 .given .1)))
 
@@ -73,16 +64,10 @@ returns-2 c =
     let told = in-arm shownMeaning (a .before .before .evaluate .ensures) (a .answer2 .given .1) in
     record { packing = c .declined .ensures ∙ ap (packed scoreValue) told; leaving = ap (remainderAfter _) told }
 
+-- the other needs are found by search
 pub cerahupo-score-spec : {M : Type 1} → statement M
 cerahupo-score-spec =
     tie.close
     (tie.spec
-    evaluate-requires
-    enum-known-answer
-    add-value
-    cast-value
-    accepted-requires
-    enum-known-answer-2
-    declined-requires
-    returns
-    returns-2)
+    (λ c κs. search needs) (λ c. search needs) add-value cast-value accepted-requires (λ c. search needs)
+    declined-requires returns returns-2)

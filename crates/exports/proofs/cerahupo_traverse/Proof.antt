@@ -10,32 +10,11 @@ use Rattle.exports.proofs.ListingRefusals.{traversing}
 use Rattle.exports.proofs.cerahupo_traverse.Statement.{statement}
 use Rattle.exports.proofs.cerahupo_traverse.Tie as tie
 
-traverse-requires : tie.Need-traverse-requires
-traverse-requires c κs = search needs
-
-enum-known-answer : tie.Need-enum-known-answer
-enum-known-answer c = search needs
-
-accepted-requires : tie.Need-accepted-requires
-accepted-requires c κs = search needs
-
-enum-told : tie.Need-enum-told
-enum-told c = search needs
-
-refused-requires : tie.Need-refused-requires
-refused-requires c κs = search needs
-
-enum-known-answer-2 : tie.Need-enum-known-answer-2
-enum-known-answer-2 c = search needs
-
 refused-listing-requires : tie.Need-refused-listing-requires
 refused-listing-requires c κs =
     let a = c .before in
     let x = a .before .before .before .before in
     omega (arith, x .before .before .before .before .before .good, in-table (traversing _ _ _) (in-arm traverseMeaning (x .traverse .ensures .returning) (a .answer2 .given .1)))
-
-same-length : tie.Need-same-length
-same-length c = search needs
 
 returns : tie.Need-returns
 unfolding packed answersValue
@@ -44,18 +23,12 @@ returns c =
     let x = a .before .before .before .before in
     record { packing = c .accepted .ensures ∙ ap (packed answersValue) (in-arm traverseMeaning (x .traverse .ensures .returning) (a .answer .given .1)); leaving = x .traverse .ensures .leaving }
 
-same-length-2 : tie.Need-same-length-2
-same-length-2 c = search needs
-
 returns-2 : tie.Need-returns-2
 unfolding packed
 returns-2 c =
     let a = c .before in
     let x = a .before .before .before .before in
     record { packing = c .refused .ensures ∙ ap (packed answersValue) (in-arm traverseMeaning (x .traverse .ensures .returning) (a .enum-told .given .1)); leaving = x .traverse .ensures .leaving }
-
-same-length-3 : tie.Need-same-length-3
-same-length-3 c = search needs
 
 returns-3 : tie.Need-returns-3
 unfolding packed
@@ -64,20 +37,11 @@ returns-3 c =
     let x = a .before .before .before .before in
     record { packing = c .refused-listing .ensures ∙ ap (packed answersValue) (in-arm traverseMeaning (x .traverse .ensures .returning) (a .answer2 .given .1)); leaving = x .traverse .ensures .leaving }
 
+-- the other needs are found by search
 pub cerahupo-traverse-spec : {M : Type 1} → statement M
 cerahupo-traverse-spec =
     tie.close
     (tie.spec
-    traverse-requires
-    enum-known-answer
-    accepted-requires
-    enum-told
-    refused-requires
-    enum-known-answer-2
-    refused-listing-requires
-    same-length
-    returns
-    same-length-2
-    returns-2
-    same-length-3
-    returns-3)
+    (λ c κs. search needs) (λ c. search needs) (λ c κs. search needs) (λ c. search needs) (λ c κs. search needs)
+    (λ c. search needs) refused-listing-requires (λ c. search needs) returns (λ c. search needs) returns-2
+    (λ c. search needs) returns-3)

@@ -12,17 +12,8 @@ use Rattle.exports.proofs.declined.Tie as tie
 abbrev packedDeclined : Declined → ℕ
 packedDeclined d = asOne (declinedNumber d) (declinedValue d)
 
-enum-known-why : tie.Need-enum-known-why
-enum-known-why c = search needs
-
 refused-book-requires : tie.Need-refused-book-requires
 refused-book-requires c κs = omega (arith, ap declinedValue (c .before .why .given .1))
-
-enum-told : tie.Need-enum-told
-enum-told c = search needs
-
-refused-requires : tie.Need-refused-requires
-refused-requires c κs = search needs
 
 returns : tie.Need-returns
 returns c = c .refused-book .ensures ∙ ap packedDeclined (sym (c .before .before .why .given .1))
@@ -30,7 +21,8 @@ returns c = c .refused-book .ensures ∙ ap packedDeclined (sym (c .before .befo
 returns-2 : tie.Need-returns-2
 returns-2 c = c .refused .ensures ∙ ap packedDeclined (sym (c .before .enum-told .given .1))
 
+-- the other needs are found by search
 pub declined-spec : {M : Type 1} → statement M
 declined-spec =
     tie.close
-    (tie.spec enum-known-why refused-book-requires enum-told refused-requires returns returns-2)
+    (tie.spec (λ c. search needs) refused-book-requires (λ c. search needs) (λ c κs. search needs) returns returns-2)

@@ -12,15 +12,6 @@ use Rattle.exports.proofs.refused_listing.Tie as tie
 abbrev packedFault : Fault → ℕ
 packedFault f = asOne (faultNumber f) (faultValue f)
 
-enum-told : tie.Need-enum-told
-enum-told c = search needs
-
-refused-requires : tie.Need-refused-requires
-refused-requires c κs = search needs
-
-enum-known-fault : tie.Need-enum-known-fault
-enum-known-fault c = search needs
-
 refused-requires-2 : tie.Need-refused-requires-2
 refused-requires-2 c κs = omega (arith, ap faultValue (c .before .fault .given .1))
 
@@ -30,7 +21,8 @@ returns c = c .refused .ensures ∙ ap packedFault (sym (c .before .enum-told .g
 returns-2 : tie.Need-returns-2
 returns-2 c = c .refused2 .ensures ∙ ap packedFault (sym (c .before .before .fault .given .1))
 
+-- the other needs are found by search
 pub refused-listing-spec : {M : Type 1} → statement M
 refused-listing-spec =
     tie.close
-    (tie.spec enum-told refused-requires enum-known-fault refused-requires-2 returns returns-2)
+    (tie.spec (λ c. search needs) (λ c κs. search needs) (λ c. search needs) refused-requires-2 returns returns-2)

@@ -11,22 +11,13 @@ use Rattle.score.specs.Decisions.{scoredAnswer}
 use Rattle.score.proofs.decide.Statement.{statement}
 use Rattle.score.proofs.decide.Tie as tie
 
-ask-requires : tie.Need-ask-requires
-ask-requires c κs = search needs
-
 -- what was asked for, in an arm
 arm : (c : tie.After-ask) (a : Asked) → c .ask .result ≡ a → let s = c .before .before .before in
     AskedAs (now (s .args .bytes)) (s .args .condition) (c .ask .last .1 .1 .0) a
 arm c a e = subst (AskedAs _ _ _) e (c .ask .ensures)
 
-enum-known-asked : tie.Need-enum-known-asked
-enum-known-asked c = search needs
-
 is-met-requires : tie.Need-is-met-requires
 is-met-requires c κs = let a = c .before .before in arm (a .before .before) _ (a .asked .given .1) .kept
-
-enum-known-asked-2 : tie.Need-enum-known-asked-2
-enum-known-asked-2 c = search needs
 
 -- the decision that was made, by the test of it
 decided : (c : tie.After-is-met) (b : Bool) → c .is-met .result ≡ b → let s = c .before .before .before .before .before .before .before .before in
@@ -47,7 +38,9 @@ returns-3 : tie.Need-returns-3
 unfolding scoredAnswer
 returns-3 c = let a = c .before in on-equal _ (arm (a .before .before) _ (a .asked2 .given .1))
 
+-- the other needs are found by search
 pub decide-spec : {M : Type 1} → statement M
 decide-spec =
     tie.close
-    (tie.spec ask-requires enum-known-asked is-met-requires enum-known-asked-2 returns returns-2 returns-3)
+    (tie.spec
+    (λ c κs. search needs) (λ c. search needs) is-met-requires (λ c. search needs) returns returns-2 returns-3)

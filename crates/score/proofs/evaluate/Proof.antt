@@ -12,22 +12,13 @@ use Rattle.score.proofs.ShownLaws.{pair-shown}
 use Rattle.score.proofs.evaluate.Statement.{statement}
 use Rattle.score.proofs.evaluate.Tie as tie
 
-ask-requires : tie.Need-ask-requires
-ask-requires c κs = search needs
-
 -- what was asked for, in an arm
 arm : (c : tie.After-ask) (a : Asked) → c .ask .result ≡ a → let s = c .before .before .before in
     AskedAs (now (s .args .bytes)) (s .args .condition) (c .ask .last .1 .1 .0) a
 arm c a e = subst (AskedAs _ _ _) e (c .ask .ensures)
 
-enum-known-asked : tie.Need-enum-known-asked
-enum-known-asked c = search needs
-
 expression-score-requires : tie.Need-expression-score-requires
 expression-score-requires c κs = let a = c .before .before in arm (a .before .before) _ (a .asked .given .1) .kept
-
-enum-known-asked-2 : tie.Need-enum-known-asked-2
-enum-known-asked-2 c = search needs
 
 returns : tie.Need-returns
 unfolding shownAnswer
@@ -40,7 +31,9 @@ returns-2 : tie.Need-returns-2
 unfolding shownAnswer
 returns-2 c = let a = c .before in on-equal _ (arm (a .before .before) _ (a .asked2 .given .1))
 
+-- the other needs are found by search
 pub evaluate-spec : {M : Type 1} → statement M
 evaluate-spec =
     tie.close
-    (tie.spec ask-requires enum-known-asked expression-score-requires enum-known-asked-2 returns returns-2)
+    (tie.spec
+    (λ c κs. search needs) (λ c. search needs) expression-score-requires (λ c. search needs) returns returns-2)

@@ -20,9 +20,6 @@ threshold-at-requires c κs = c .before .pre
 expression-score-requires : tie.Need-expression-score-requires
 expression-score-requires c κs = c .before .before .pre
 
-meets-requires : tie.Need-meets-requires
-meets-requires c κs = search needs
-
 returns : tie.Need-returns
 unfolding decision
 returns c =
@@ -37,7 +34,8 @@ returns c =
     ∙ ap (λ (z : ℤ). meets (s .sense-at .result) z v) (toZ-ofZ w32 (t .threshold-at .result) fits ∙ t .threshold-at .ensures (h .condition) (condition-held h))
     ∙ ap (λ (o : Sense). meets o (h .condition .threshold) v) (s .sense-at .ensures (h .condition) (condition-held h))
 
+-- the other needs are found by search
 pub is-met-spec : {M : Type 1} → statement M
 is-met-spec =
     tie.close
-    (tie.spec sense-at-requires threshold-at-requires expression-score-requires meets-requires returns)
+    (tie.spec sense-at-requires threshold-at-requires expression-score-requires (λ c κs. search needs) returns)

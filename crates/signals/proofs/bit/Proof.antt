@@ -6,12 +6,10 @@ use Rattle.signals.specs.Sets.{setOf}
 use Rattle.signals.proofs.bit.Statement.{statement}
 use Rattle.signals.proofs.bit.Tie as tie
 
-shl-result : tie.Need-shl-result
-shl-result c = search needs
-
 returns : tie.Need-returns
 unfolding setOf
 returns c = omega (arith, bit-is (c .args .signal) 32 (omega arith))
 
+-- the other needs are found by search
 pub bit-spec : {M : Type 1} → statement M
-bit-spec = tie.close (tie.spec shl-result returns)
+bit-spec = tie.close (tie.spec (λ c. search needs) returns)

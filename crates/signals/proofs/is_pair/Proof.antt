@@ -36,26 +36,11 @@ returns : tie.Need-returns Inv-loop μ-loop
 unfolding isPair isSet
 returns c = rw (lt-leb (c .before .args .mask) 65535 (c .if1 .taken)) refl
 
-cast-set : tie.Need-cast-set Inv-loop μ-loop
-cast-set c = search needs
-
 loop-holds : tie.Need-loop-holds Inv-loop μ-loop
 loop-holds c = (omega arith, omega arith, refl)
 
-is-present-requires : tie.Need-is-present-requires Inv-loop μ-loop
-is-present-requires c κs = search needs
-
-cast-count : tie.Need-cast-count Inv-loop μ-loop
-cast-count c = search needs
-
 add-count : tie.Need-add-count Inv-loop μ-loop
 add-count c = let l = c .before .before .loop in record { fits = omega (arith, byte-small (c .is-present .result), l .inv .0, l .inv .1) }
-
-add-signal : tie.Need-add-signal Inv-loop μ-loop
-add-signal c = search needs
-
-loop-less : tie.Need-loop-less Inv-loop μ-loop
-loop-less c = search needs
 
 loop-again : tie.Need-loop-again Inv-loop μ-loop
 loop-again c =
@@ -72,19 +57,10 @@ returns-2 c =
     let all : l .signal ≡ 16 = omega (arith, l .inv .0, c .loop-test .left) in
     rw (le-leb (c .before .before .before .args .mask) 65535 (omega (arith, c .before .before .if1 .left)), l .inv .2, all) refl
 
+-- the other needs are found by search
 pub is-pair-spec : {M : Type 1} → statement M
 is-pair-spec =
     tie.close
     (tie.spec
-    Inv-loop
-    μ-loop
-    returns
-    cast-set
-    loop-holds
-    is-present-requires
-    cast-count
-    add-count
-    add-signal
-    loop-less
-    loop-again
-    returns-2)
+    Inv-loop μ-loop returns (λ c. search needs) loop-holds (λ c κs. search needs) (λ c. search needs) add-count
+    (λ c. search needs) (λ c. search needs) loop-again returns-2)

@@ -8,12 +8,10 @@ use Rattle.signals.specs.Sets.{present}
 use Rattle.signals.proofs.is_present.Statement.{statement}
 use Rattle.signals.proofs.is_present.Tie as tie
 
-shr-result : tie.Need-shr-result
-shr-result c = search needs
-
 returns : tie.Need-returns
 unfolding present
 returns c = ap (λ (x : ℕ). eqb x 1) (and-mask (c .args .set / 2 ^ c .args .signal) 1)
 
+-- the other needs are found by search
 pub is-present-spec : {M : Type 1} → statement M
-is-present-spec = tie.close (tie.spec shr-result returns)
+is-present-spec = tie.close (tie.spec (λ c. search needs) returns)

@@ -25,9 +25,6 @@ Inv-loop cells first second count i₀ i =
 abbrev μ-loop : tie.MeasureT-loop
 μ-loop cells first second count i₀ i = count - i
 
-exclusion-count-requires : tie.Need-exclusion-count-requires Inv-loop μ-loop
-exclusion-count-requires c κs = search needs
-
 loop-holds : tie.Need-loop-holds Inv-loop μ-loop
 loop-holds c = (omega arith, λ xs h. refl)
 
@@ -61,18 +58,12 @@ module _ (c : tie.After-second-at Inv-loop μ-loop) where
         → excludes (begin .args .first) (begin .args .second) (getD xs (turn .loop .i) noExclusion) ≡ (p || q)
     tested = by-tests (begin .args .first) (begin .args .second) (getD xs (turn .loop .i) noExclusion) (c .before .first-at .ensures xs h) (c .second-at .ensures xs h)
 
-are-both-requires : tie.Need-are-both-requires Inv-loop μ-loop
-are-both-requires c κs = search needs
-
 returns : tie.Need-returns Inv-loop μ-loop
 returns c =
     let r = c .before in
     let m = r .before in
     λ xs h.
     exists-here _ xs _ noExclusion (within m xs h) (by-first-test _ _ _ (m .before .first-at .ensures xs h) (m .second-at .ensures xs h) (r .are-both .ensures) (c .if1 .taken)) ∙ turn m .loop .inv .1 xs h
-
-are-both-requires-2 : tie.Need-are-both-requires-2 Inv-loop μ-loop
-are-both-requires-2 c κs = search needs
 
 returns-2 : tie.Need-returns-2 Inv-loop μ-loop
 returns-2 c =
@@ -81,12 +72,6 @@ returns-2 c =
     let m = r .before in
     λ xs h.
     exists-here _ xs _ noExclusion (within m xs h) (tested m xs h (r .are-both .ensures) (q .are-both2 .ensures) ∙ ap₂ _||_ (q .before .if1 .left) (c .if2 .taken)) ∙ turn m .loop .inv .1 xs h
-
-add-i : tie.Need-add-i Inv-loop μ-loop
-add-i c = search needs
-
-loop-less : tie.Need-loop-less Inv-loop μ-loop
-loop-less c = search needs
 
 loop-again : tie.Need-loop-again Inv-loop μ-loop
 loop-again c =
@@ -103,21 +88,10 @@ returns-3 c =
     let l = c .before in
     λ xs h. exists-left _ xs (l .loop .i) (omega (arith, l .before .exclusion-count .ensures xs h, c .loop-test .left)) ∙ l .loop .inv .1 xs h
 
+-- the other needs are found by search
 pub has-exclusion-spec : {M : Type 1} → statement M
 has-exclusion-spec =
     tie.close
     (tie.spec
-    Inv-loop
-    μ-loop
-    exclusion-count-requires
-    loop-holds
-    first-at-requires
-    second-at-requires
-    are-both-requires
-    returns
-    are-both-requires-2
-    returns-2
-    add-i
-    loop-less
-    loop-again
-    returns-3)
+    Inv-loop μ-loop (λ c κs. search needs) loop-holds first-at-requires second-at-requires (λ c κs. search needs)
+    returns (λ c κs. search needs) returns-2 (λ c. search needs) (λ c. search needs) loop-again returns-3)

@@ -12,9 +12,6 @@ use borrow.Author.Needs.{needs}
 use Rattle.book.proofs.acceptance.judge_condition.Statement.{statement}
 use Rattle.book.proofs.acceptance.judge_condition.Tie as tie
 
-room-for-condition-requires : tie.Need-room-for-condition-requires
-room-for-condition-requires c κs = search needs
-
 returns : tie.Need-returns
 returns c =
     λ e d so k left n.
@@ -24,9 +21,6 @@ returns c =
 -- one more has room
 room : (c : tie.Else1) → roomForCondition (c .before .before .args .state .conditions) ≡ true
 room c = sym (c .before .room-for-condition .ensures) ∙ not-false _ (c .if1 .left)
-
-threshold-in-range-requires : tie.Need-threshold-in-range-requires
-threshold-in-range-requires c κs = search needs
 
 -- the threshold is in range or not
 ranged : (c : tie.After-threshold-in-range) (b : Bool) → c .threshold-in-range .result ≡ b → thresholdInRange (c .before .before .before .args .threshold) ≡ b
@@ -39,12 +33,6 @@ returns-2 c =
     λ e d so k left n.
     accept-5 n so (condition k _ e) (condition-placed so k _ e n) (condition-counted so k _ e _ (conditions-is so left) true (room (c .before .before)))
     (threshold-out so k _ e (ranged (c .before) false (not-true _ (c .if2 .taken))))
-
-cast-mentions-below : tie.Need-cast-mentions-below
-cast-mentions-below c = search needs
-
-mentions-below-requires : tie.Need-mentions-below-requires
-mentions-below-requires c κs = search needs
 
 returns-3 : tie.Need-returns-3
 returns-3 c =
@@ -61,15 +49,10 @@ returns-4 c =
     (condition-range so k _ e (ranged (t .before) true (not-false _ (t .if2 .left))) _ (policies-is so left) _ true (c .before .mentions-below .ensures e d) (not-false _ (c .if3 .left)))
     (condition-new so k _ e)
 
+-- the other needs are found by search
 pub judge-condition-spec : {M : Type 1} → statement M
 judge-condition-spec =
     tie.close
     (tie.spec
-    room-for-condition-requires
-    returns
-    threshold-in-range-requires
-    returns-2
-    cast-mentions-below
-    mentions-below-requires
-    returns-3
-    returns-4)
+    (λ c κs. search needs) returns (λ c κs. search needs) returns-2 (λ c. search needs) (λ c κs. search needs)
+    returns-3 returns-4)

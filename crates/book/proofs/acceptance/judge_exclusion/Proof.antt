@@ -13,12 +13,6 @@ use borrow.Author.Needs.{needs}
 use Rattle.book.proofs.acceptance.judge_exclusion.Statement.{statement}
 use Rattle.book.proofs.acceptance.judge_exclusion.Tie as tie
 
-exclusion-count-requires : tie.Need-exclusion-count-requires
-exclusion-count-requires c κs = search needs
-
-room-for-exclusion-requires : tie.Need-room-for-exclusion-requires
-room-for-exclusion-requires c κs = search needs
-
 -- for a book so far that is held: an exclusion that is in place and counted
 module _ (c : tie.Else2) where
   abbrev begin : tie.Start
@@ -44,9 +38,6 @@ returns-2 c =
     accept-4 n so (exclusion _ _) (exclusion-placed so _ _ n _ (conditions-is so (h .left)) (k .before .if1 .left))
     (exclusion-counted so _ _ _ (k .exclusion-count .ensures (so .book .exclusions) (h .held .exclusions)) false (sym (r .room-for-exclusion .ensures) ∙ not-true _ (c .if2 .taken)))
 
-exclusion-in-range-requires : tie.Need-exclusion-in-range-requires
-exclusion-in-range-requires c κs = search needs
-
 returns-3 : tie.Need-returns-3
 returns-3 c =
     let r = c .before in
@@ -57,9 +48,6 @@ returns-3 c =
 -- two different signals
 ranged : (c : tie.Else3) (so : BookSoFar) → inRange so (exclusion (begin (c .before .before) .args .first) (begin (c .before .before) .args .second)) ≡ true
 ranged c so = exclusion-range so _ _ true (sym (c .before .exclusion-in-range .ensures) ∙ not-false _ (c .if3 .left))
-
-has-exclusion-requires : tie.Need-has-exclusion-requires
-has-exclusion-requires c κs = search needs
 
 returns-4 : tie.Need-returns-4
 returns-4 c =
@@ -75,16 +63,10 @@ returns-5 c =
     λ so h n.
     accept-fine n so (exclusion _ _) (placed k so h n) (counted k so h) (ranged d so) (exclusion-new so _ _ _ false (c .before .has-exclusion .ensures (so .book .exclusions) (h .held .exclusions)) (c .if4 .left))
 
+-- the other needs are found by search
 pub judge-exclusion-spec : {M : Type 1} → statement M
 judge-exclusion-spec =
     tie.close
     (tie.spec
-    returns
-    exclusion-count-requires
-    room-for-exclusion-requires
-    returns-2
-    exclusion-in-range-requires
-    returns-3
-    has-exclusion-requires
-    returns-4
-    returns-5)
+    returns (λ c κs. search needs) (λ c κs. search needs) returns-2 (λ c κs. search needs) returns-3
+    (λ c κs. search needs) returns-4 returns-5)

@@ -13,9 +13,6 @@ use Rattle.book.proofs.acceptance.judge_policy.Tie as tie
 returns : tie.Need-returns
 returns c = λ so o d left r n. accept-3 n so (policy o d) (policy-misplaced so o d n _ (conditions-is so left) (c .if1 .taken))
 
-room-for-policy-requires : tie.Need-room-for-policy-requires
-room-for-policy-requires c κs = search needs
-
 returns-2 : tie.Need-returns-2
 returns-2 c =
     let e = c .before in
@@ -42,5 +39,6 @@ returns-4 c =
     (policy-range so o d _ true r (not-false _ (c .if3 .left)))
     (policy-new so o d)
 
+-- the other needs are found by search
 pub judge-policy-spec : {M : Type 1} → statement M
-judge-policy-spec = tie.close (tie.spec returns room-for-policy-requires returns-2 returns-3 returns-4)
+judge-policy-spec = tie.close (tie.spec returns (λ c κs. search needs) returns-2 returns-3 returns-4)

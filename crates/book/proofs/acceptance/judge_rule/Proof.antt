@@ -41,9 +41,6 @@ operator-at-requires c κs = kept (c .before)
 count-at-requires : tie.Need-count-at-requires
 count-at-requires c κs = kept (c .before .before)
 
-room-for-rule-requires : tie.Need-room-for-rule-requires
-room-for-rule-requires c κs = search needs
-
 -- for a book so far that is held
 module _ (c : tie.After-room-for-rule) where
   abbrev inner : tie.Else1
@@ -62,9 +59,6 @@ module _ (c : tie.After-room-for-rule) where
 
 returns-2 : tie.Need-returns-2
 returns-2 c = λ so h n. accept-4 n so (rule _ _) (placed (c .before) so h n) (counted (c .before) so h false (not-true _ (c .if2 .taken)))
-
-signal-in-range-requires : tie.Need-signal-in-range-requires
-signal-in-range-requires c κs = search needs
 
 returns-3 : tie.Need-returns-3
 returns-3 c =
@@ -87,9 +81,6 @@ module _ (c : tie.Else3) where
 
   is-counted : (so : BookSoFar) → Holds (start .args .state) (now (start .args .cells)) so → inCount so (rule (start .args .signal) (start .args .score)) ≡ true
   is-counted so h = counted roomy so h true (not-false _ (c .before .before .if2 .left))
-
-score-in-range-requires : tie.Need-score-in-range-requires
-score-in-range-requires c κs = search needs
 
 ranged : (c : tie.After-score-in-range) (so : BookSoFar) → Holds (start (c .before) .args .state) (now (start (c .before) .args .cells)) so
     → (b : Bool) → c .score-in-range .result ≡ b
@@ -133,21 +124,10 @@ returns-6 c =
     λ so h n.
     accept-fine n so (rule _ _) (placed (roomy f) so h n) (is-counted f so h) (ranged (g .before) so h true (not-false _ (g .if4 .left))) (known (c .before) so h false (c .if5 .left))
 
+-- the other needs are found by search
 pub judge-rule-spec : {M : Type 1} → statement M
 judge-rule-spec =
     tie.close
     (tie.spec
-    returns
-    sub-k
-    operator-at-requires
-    count-at-requires
-    room-for-rule-requires
-    returns-2
-    signal-in-range-requires
-    returns-3
-    score-in-range-requires
-    returns-4
-    mask-at-requires
-    is-present-requires
-    returns-5
-    returns-6)
+    returns sub-k operator-at-requires count-at-requires (λ c κs. search needs) returns-2 (λ c κs. search needs)
+    returns-3 (λ c κs. search needs) returns-4 mask-at-requires is-present-requires returns-5 returns-6)

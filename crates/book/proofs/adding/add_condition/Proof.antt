@@ -31,16 +31,10 @@ judged c so e h k v q =
     judged-as so (condition _ _ e) _ v q
     (condition-judged-at so _ (c .judge-condition .result) _ _ e (toZ-ofZ w32 (s .args .threshold) (s .fits .threshold)) (c .judge-condition .ensures e k so _ (h .left)))
 
-enum-known-reason : tie.Need-enum-known-reason
-enum-known-reason c = search needs
-
 returns : tie.Need-returns
 returns c =
     let r = c .before in
     λ e k n so h. step-refused n _ _ _ (judged (r .before .before) so e h k _ (r .reason .given .1) n)
-
-enum-told : tie.Need-enum-told
-enum-told c = search needs
 
 -- at a fine condition, for the book so far and the expression that the function is handed
 module _ (m : tie.After-enum-told) where
@@ -70,14 +64,9 @@ returns-2 c =
     step-added n _ (withLine so (condition _ _ e)) _ _ (judged (m .before .before) so e h k Fine (m .enum-told .given .1) n) (condition-left so (h .left) _ _ e)
     (condition-cells _ so _ _ _ e (toZ-ofZ w32 (s .args .threshold) (s .fits .threshold)) (c .put-condition .ensures e k (so .book) (h .held) (h .bounded .range) (conditions-is so (h .left))))
 
+-- the other needs are found by search
 pub add-condition-spec : {M : Type 1} → statement M
 add-condition-spec =
     tie.close
     (tie.spec
-    judge-condition-requires
-    enum-known-reason
-    returns
-    enum-told
-    put-condition-requires
-    add-t12
-    returns-2)
+    judge-condition-requires (λ c. search needs) returns (λ c. search needs) put-condition-requires add-t12 returns-2)

@@ -21,16 +21,10 @@ judged : (c : tie.After-judge-exclusion) (so : BookSoFar) → Holds (c .before .
     → Judged so (exclusion (c .before .before .args .first) (c .before .before .args .second)) v
 judged c so h v e = judged-as so (exclusion _ _) _ v e (c .judge-exclusion .ensures so h)
 
-enum-known-reason : tie.Need-enum-known-reason
-enum-known-reason c = search needs
-
 returns : tie.Need-returns
 returns c =
     let r = c .before in
     λ n so h. step-refused n _ _ _ (judged (r .before .before) so h _ (r .reason .given .1) n)
-
-enum-told : tie.Need-enum-told
-enum-told c = search needs
 
 put-exclusion-requires : tie.Need-put-exclusion-requires
 put-exclusion-requires c κs =
@@ -48,13 +42,9 @@ returns-2 c =
     step-added n _ (withLine so (exclusion _ _)) _ _ (judged (m .before .before) so h Fine (m .enum-told .given .1) n) (exclusion-left so (h .left) _ _)
     (exclusion-cells _ so _ _ (c .put-exclusion .ensures (so .book) (h .held) (h .bounded .range) tt))
 
+-- the other needs are found by search
 pub add-exclusion-spec : {M : Type 1} → statement M
 add-exclusion-spec =
     tie.close
     (tie.spec
-    judge-exclusion-requires
-    enum-known-reason
-    returns
-    enum-told
-    put-exclusion-requires
-    returns-2)
+    judge-exclusion-requires (λ c. search needs) returns (λ c. search needs) put-exclusion-requires returns-2)

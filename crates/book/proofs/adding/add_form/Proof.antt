@@ -29,32 +29,14 @@ score-same c = search needs
 threshold-same : (c : tie.After-known-told4) → toZ w32 (ofZ w32 (c .before .form4 .given .0 .1 .0)) ≡ c .before .form4 .given .0 .1 .0
 threshold-same c = search needs
 
-enum-known-form : tie.Need-enum-known-form
-enum-known-form c = search needs
-
-default-in-range-requires : tie.Need-default-in-range-requires
-default-in-range-requires c κs = search needs
-
 add-policy-requires : tie.Need-add-policy-requires
 add-policy-requires c κs = c .before .before .before .before .before .before .pre .kept
-
-enum-known-form-2 : tie.Need-enum-known-form-2
-enum-known-form-2 c = search needs
-
-missing-default-requires : tie.Need-missing-default-requires
-missing-default-requires c κs = search needs
 
 add-policy-requires-2 : tie.Need-add-policy-requires-2
 add-policy-requires-2 c κs = c .before .before .before .before .before .before .pre .kept
 
-enum-known-form-3 : tie.Need-enum-known-form-3
-enum-known-form-3 c = search needs
-
 add-rule-requires : tie.Need-add-rule-requires
 add-rule-requires c κs = c .before .before .before .before .before .pre .kept
-
-enum-known-form-4 : tie.Need-enum-known-form-4
-enum-known-form-4 c = search needs
 
 read-expression-requires : tie.Need-read-expression-requires
 read-expression-requires c κs =
@@ -66,12 +48,6 @@ read-expression-requires c κs =
 -- what the code matched on
 abbrev meant : (s : tie.Start) {x : Line} → s .args .form ≡ x → lineMeaning (now (s .args .line)) (Good (s .args .form)) ≡ lineMeaning (now (s .args .line)) (Good x)
 meant s e = ap (λ (x : Line). lineMeaning (now (s .args .line)) (Good x)) e
-
-enum-known-count : tie.Need-enum-known-count
-enum-known-count c = search needs
-
-enum-told : tie.Need-enum-told
-enum-told c = search needs
 
 returns : tie.Need-returns
 returns c =
@@ -87,17 +63,8 @@ add-condition-requires c κs =
     let x = expression-found _ _ _ _ (p .read-expression .ensures) (t .count .given .1) in
     record { kept = p .before .before .before .before .before .before .pre .kept; few = x .few; expression = x .tree; held = x .kept }
 
-enum-known-form-5 : tie.Need-enum-known-form-5
-enum-known-form-5 c = search needs
-
 add-exclusion-requires : tie.Need-add-exclusion-requires
 add-exclusion-requires c κs = c .before .before .before .before .before .pre .kept
-
-enum-told-2 : tie.Need-enum-told-2
-enum-told-2 c = search needs
-
-add-old-zero-requires : tie.Need-add-old-zero-requires
-add-old-zero-requires c κs = search needs
 
 returns-2 : tie.Need-returns-2
 unfolding defaultOf defaultInRange
@@ -148,31 +115,12 @@ returns-7 c =
     let k = c .before in
     λ n so h top. step-as n _ _ (form-some n so _ _ (meant (k .before .before .before) (k .enum-told2 .given .1))) (c .add-old-zero .ensures n so _ h top)
 
+-- the other needs are found by search
 pub add-form-spec : {M : Type 1} → statement M
 add-form-spec =
     tie.close
     (tie.spec
-    enum-known-form
-    default-in-range-requires
-    add-policy-requires
-    enum-known-form-2
-    missing-default-requires
-    add-policy-requires-2
-    enum-known-form-3
-    add-rule-requires
-    enum-known-form-4
-    read-expression-requires
-    enum-known-count
-    enum-told
-    returns
-    add-condition-requires
-    enum-known-form-5
-    add-exclusion-requires
-    enum-told-2
-    add-old-zero-requires
-    returns-2
-    returns-3
-    returns-4
-    returns-5
-    returns-6
-    returns-7)
+    (λ c. search needs) (λ c κs. search needs) add-policy-requires (λ c. search needs) (λ c κs. search needs)
+    add-policy-requires-2 (λ c. search needs) add-rule-requires (λ c. search needs) read-expression-requires
+    (λ c. search needs) (λ c. search needs) returns add-condition-requires (λ c. search needs) add-exclusion-requires
+    (λ c. search needs) (λ c κs. search needs) returns-2 returns-3 returns-4 returns-5 returns-6 returns-7)

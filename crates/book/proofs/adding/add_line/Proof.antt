@@ -11,9 +11,6 @@ use borrow.Author.Needs.{needs}
 use Rattle.book.proofs.adding.add_line.Statement.{statement}
 use Rattle.book.proofs.adding.add_line.Tie as tie
 
-line-fits-requires : tie.Need-line-fits-requires
-line-fits-requires c κs = search needs
-
 -- the line is not too long
 short : (c : tie.Else1) → lineFits (length (c .before .before .before .args .line .now)) ≡ true
 short c = sym (c .before .line-fits .ensures) ∙ not-false _ (c .if1 .left)
@@ -27,15 +24,6 @@ returns-2 c = λ n so h top. step-refused n _ _ _ (line-open n so _ (short (c .b
 -- the line that is read has its end
 whole : (r : tie.After-read-line) → r .before .before .before .before .before .args .ended ≡ true
 whole r = not-false _ (r .before .if2 .left)
-
-read-line-requires : tie.Need-read-line-requires
-read-line-requires c κs = search needs
-
-enum-known-form : tie.Need-enum-known-form
-enum-known-form c = search needs
-
-enum-told : tie.Need-enum-told
-enum-told c = search needs
 
 returns-3 : tie.Need-returns-3
 returns-3 c =
@@ -62,16 +50,10 @@ returns-4 c =
     step-as n _ _ (line-read n so _ (short (r .before .before)) (whole r) _ (sym (r .read-line .ensures .0) ∙ ap (lineMeaning (s .args .line .now)) (f .form .given .1)))
     (c .add-form .ensures n so h top)
 
+-- the other needs are found by search
 pub add-line-spec : {M : Type 1} → statement M
 add-line-spec =
     tie.close
     (tie.spec
-    line-fits-requires
-    returns
-    returns-2
-    read-line-requires
-    enum-known-form
-    enum-told
-    returns-3
-    add-form-requires
-    returns-4)
+    (λ c κs. search needs) returns returns-2 (λ c κs. search needs) (λ c. search needs) (λ c. search needs) returns-3
+    add-form-requires returns-4)

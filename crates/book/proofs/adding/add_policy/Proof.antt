@@ -12,20 +12,11 @@ use borrow.Author.Needs.{needs}
 use Rattle.book.proofs.adding.add_policy.Statement.{statement}
 use Rattle.book.proofs.adding.add_policy.Tie as tie
 
-judge-policy-requires : tie.Need-judge-policy-requires
-judge-policy-requires c κs = search needs
-
-enum-known-reason : tie.Need-enum-known-reason
-enum-known-reason c = search needs
-
 returns : tie.Need-returns
 returns c =
     let r = c .before in
     let j = r .before .before in
     λ n so d h z g. step-refused n _ _ _ (judged-as so (policy _ d) _ _ (r .reason .given .1) (j .judge-policy .ensures so _ d (h .left) g) n)
-
-enum-told : tie.Need-enum-told
-enum-told c = search needs
 
 -- the verdict is fine for some default too, and so there is room
 room : (m : tie.After-enum-told) → m .before .before .before .args .state .policies < 16
@@ -51,14 +42,9 @@ returns-2 c =
     step-added n _ (withLine so (policy _ d)) _ _ (judged-as so (policy _ d) _ _ (m .enum-told .given .1) (j .judge-policy .ensures so _ d (h .left) g) n) (policy-left so (h .left) _ d)
     (policy-cells _ so _ d _ (toZ-ofZ w32 (s .args .default) (s .fits .default) ∙ z) (c .put-policy .ensures (so .book) (h .held) (h .bounded .range) (policies-is so (h .left))))
 
+-- the other needs are found by search
 pub add-policy-spec : {M : Type 1} → statement M
 add-policy-spec =
     tie.close
     (tie.spec
-    judge-policy-requires
-    enum-known-reason
-    returns
-    enum-told
-    put-policy-requires
-    add-t11
-    returns-2)
+    (λ c κs. search needs) (λ c. search needs) returns (λ c. search needs) put-policy-requires add-t11 returns-2)

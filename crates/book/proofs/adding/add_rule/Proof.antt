@@ -27,16 +27,10 @@ judged c so h v e =
     let s = c .before .before in
     judged-as so (rule _ _) _ v e (rule-judged-at so _ (c .judge-rule .result) _ _ (toZ-ofZ w32 (s .args .score) (s .fits .score)) (c .judge-rule .ensures so h))
 
-enum-known-reason : tie.Need-enum-known-reason
-enum-known-reason c = search needs
-
 returns : tie.Need-returns
 returns c =
     let r = c .before in
     λ n so h. step-refused n _ _ _ (judged (r .before .before) so h _ (r .reason .given .1) n)
-
-enum-told : tie.Need-enum-told
-enum-told c = search needs
 
 -- at a fine rule, for the book so far that the function is handed
 module _ (m : tie.After-enum-told) where
@@ -69,14 +63,8 @@ returns-2 c =
     (rule-cells _ so _ _ _ (toZ-ofZ w32 (s .args .score) (s .fits .score))
     (c .put-rule .ensures (so .book) (h .held) (h .bounded .range) (omega (arith, policies-is so (h .left), some-policy h (follows m)))))
 
+-- the other needs are found by search
 pub add-rule-spec : {M : Type 1} → statement M
 add-rule-spec =
     tie.close
-    (tie.spec
-    judge-rule-requires
-    enum-known-reason
-    returns
-    enum-told
-    sub-k
-    put-rule-requires
-    returns-2)
+    (tie.spec judge-rule-requires (λ c. search needs) returns (λ c. search needs) sub-k put-rule-requires returns-2)

@@ -9,18 +9,6 @@ returns : tie.Need-returns
 unfolding missingDefault
 returns c = rw (c .if1 .taken)
 
-enum-told : tie.Need-enum-told
-enum-told c = search needs
-
-enum-told-2 : tie.Need-enum-told-2
-enum-told-2 c = search needs
-
-enum-told-3 : tie.Need-enum-told-3
-enum-told-3 c = search needs
-
-enum-told-4 : tie.Need-enum-told-4
-enum-told-4 c = search needs
-
 returns-2 : tie.Need-returns-2
 unfolding missingDefault
 returns-2 c = sym (ap₂ missingDefault (c .before .before .if1 .left) (c .enum-told .given .1))
@@ -37,5 +25,10 @@ returns-5 : tie.Need-returns-5
 unfolding missingDefault
 returns-5 c = sym (ap₂ missingDefault (c .before .before .if1 .left) (c .enum-told4 .given .1))
 
+-- the other needs are found by search
 pub missing-default-spec : {M : Type 1} → statement M
-missing-default-spec = tie.close (tie.spec returns enum-told enum-told-2 enum-told-3 enum-told-4 returns-2 returns-3 returns-4 returns-5)
+missing-default-spec =
+    tie.close
+    (tie.spec
+    returns (λ c. search needs) (λ c. search needs) (λ c. search needs) (λ c. search needs) returns-2 returns-3
+    returns-4 returns-5)

@@ -7,18 +7,6 @@ use Rattle.book.proofs.CellLaws.{read-back, cast-fits, kept-rules}
 use Rattle.book.proofs.cells.count_at.Statement.{statement}
 use Rattle.book.proofs.cells.count_at.Tie as tie
 
-mul-result : tie.Need-mul-result
-mul-result c = search needs
-
-add-result : tie.Need-add-result
-add-result c = search needs
-
-mul-result-2 : tie.Need-mul-result-2
-mul-result-2 c = search needs
-
-element-copy-out-result : tie.Need-element-copy-out-result
-element-copy-out-result c = search needs
-
 cast-result : tie.Need-cast-result
 cast-result c =
     let h = c .before .pre in
@@ -27,5 +15,8 @@ cast-result c =
 returns : tie.Need-returns
 returns c p h = ap natAbs (read-back (record { sfits = c .result .given }) (h .count))
 
+-- the other needs are found by search
 pub count-at-spec : {M : Type 1} → statement M
-count-at-spec = tie.close (tie.spec mul-result add-result mul-result-2 element-copy-out-result cast-result returns)
+count-at-spec =
+    tie.close
+    (tie.spec (λ c. search needs) (λ c. search needs) (λ c. search needs) (λ c. search needs) cast-result returns)

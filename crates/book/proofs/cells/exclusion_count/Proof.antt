@@ -7,9 +7,6 @@ use Rattle.book.proofs.CellLaws.{read-back, cast-fits}
 use Rattle.book.proofs.cells.exclusion_count.Statement.{statement}
 use Rattle.book.proofs.cells.exclusion_count.Tie as tie
 
-element-copy-out-result : tie.Need-element-copy-out-result
-element-copy-out-result c = search needs
-
 cast-result : tie.Need-cast-result
 cast-result c =
     let h = c .before .pre in
@@ -18,5 +15,6 @@ cast-result c =
 returns : tie.Need-returns
 returns c xs h = ap natAbs (read-back (record { sfits = c .result .given }) (h .count))
 
+-- the other needs are found by search
 pub exclusion-count-spec : {M : Type 1} → statement M
-exclusion-count-spec = tie.close (tie.spec element-copy-out-result cast-result returns)
+exclusion-count-spec = tie.close (tie.spec (λ c. search needs) cast-result returns)

@@ -7,15 +7,6 @@ use Rattle.book.proofs.CellLaws.{is-min, is-max, is-sum, is-mul}
 use Rattle.book.proofs.cells.operator_at.Statement.{statement}
 use Rattle.book.proofs.cells.operator_at.Tie as tie
 
-mul-code : tie.Need-mul-code
-mul-code c = search needs
-
-mul-code-2 : tie.Need-mul-code-2
-mul-code-2 c = search needs
-
-element-copy-out-code : tie.Need-element-copy-out-code
-element-copy-out-code c = search needs
-
 returns : tie.Need-returns
 returns c p h = is-min (p .operator) (sym (ap (ofZ w32) (h .operator)) ∙ c .match .keys1)
 
@@ -31,5 +22,8 @@ returns-4 c p h =
     let r = c .match .rest in
     is-mul (p .operator) (λ q. r .0 .0 .1 (e ∙ q)) (λ q. r .0 .1 (e ∙ q)) (λ q. r .1 (e ∙ q))
 
+-- the other needs are found by search
 pub operator-at-spec : {M : Type 1} → statement M
-operator-at-spec = tie.close (tie.spec mul-code mul-code-2 element-copy-out-code returns returns-2 returns-3 returns-4)
+operator-at-spec =
+    tie.close
+    (tie.spec (λ c. search needs) (λ c. search needs) (λ c. search needs) returns returns-2 returns-3 returns-4)

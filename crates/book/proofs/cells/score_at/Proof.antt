@@ -5,12 +5,6 @@ use Rattle.book.proofs.CellLaws.{read-back, same-count, kept-rules}
 use Rattle.book.proofs.cells.score_at.Statement.{statement}
 use Rattle.book.proofs.cells.score_at.Tie as tie
 
-mul-result : tie.Need-mul-result
-mul-result c = search needs
-
-add-result : tie.Need-add-result
-add-result c = search needs
-
 add-result-2 : tie.Need-add-result-2
 add-result-2 c = record { fits = omega (arith, c .pre .0 .below, c .pre .1, kept-rules (c .pre .0)) }
 
@@ -25,5 +19,8 @@ returns c p h =
     let k = c .before .pre in
     read-back (record { sfits = c .result .given }) (h .scores (c .before .args .i) (omega (arith, k .1, same-count (k .0 .held) h)))
 
+-- the other needs are found by search
 pub score-at-spec : {M : Type 1} → statement M
-score-at-spec = tie.close (tie.spec mul-result add-result add-result-2 mul-result-2 element-copy-out-result returns)
+score-at-spec =
+    tie.close
+    (tie.spec (λ c. search needs) (λ c. search needs) add-result-2 mul-result-2 element-copy-out-result returns)

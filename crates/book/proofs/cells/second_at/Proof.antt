@@ -7,15 +7,6 @@ use Rattle.book.proofs.CellLaws.{read-back, cast-fits, kept-exclusion, 
 use Rattle.book.proofs.cells.second_at.Statement.{statement}
 use Rattle.book.proofs.cells.second_at.Tie as tie
 
-add-result : tie.Need-add-result
-add-result c = search needs
-
-mul-result : tie.Need-mul-result
-mul-result c = search needs
-
-element-copy-out-result : tie.Need-element-copy-out-result
-element-copy-out-result c = search needs
-
 cast-result : tie.Need-cast-result
 cast-result c =
     let h = c .before .pre .0 in
@@ -28,5 +19,6 @@ returns c xs h =
     let k = c .before .pre in
     ap natAbs (read-back (record { sfits = c .result .given }) (h .seconds (c .before .args .i) (omega (arith, k .1, same-exclusions (k .0 .held) h))))
 
+-- the other needs are found by search
 pub second-at-spec : {M : Type 1} → statement M
-second-at-spec = tie.close (tie.spec add-result mul-result element-copy-out-result cast-result returns)
+second-at-spec = tie.close (tie.spec (λ c. search needs) (λ c. search needs) (λ c. search needs) cast-result returns)

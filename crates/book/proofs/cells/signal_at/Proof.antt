@@ -7,12 +7,6 @@ use Rattle.book.proofs.CellLaws.{read-back, cast-fits, signal-small, sa
 use Rattle.book.proofs.cells.signal_at.Statement.{statement}
 use Rattle.book.proofs.cells.signal_at.Tie as tie
 
-mul-result : tie.Need-mul-result
-mul-result c = search needs
-
-add-result : tie.Need-add-result
-add-result c = search needs
-
 add-result-2 : tie.Need-add-result-2
 add-result-2 c = record { fits = omega (arith, c .pre .0 .below, c .pre .1, kept-rules (c .pre .0)) }
 
@@ -34,14 +28,9 @@ returns c p h =
     let k = c .before .pre in
     ap natAbs (read-back (record { sfits = c .result .given }) (h .signals (c .before .args .i) (omega (arith, k .1, same-count (k .0 .held) h))))
 
+-- the other needs are found by search
 pub signal-at-spec : {M : Type 1} → statement M
 signal-at-spec =
     tie.close
     (tie.spec
-    mul-result
-    add-result
-    add-result-2
-    mul-result-2
-    element-copy-out-result
-    cast-result
-    returns)
+    (λ c. search needs) (λ c. search needs) add-result-2 mul-result-2 element-copy-out-result cast-result returns)

@@ -12,17 +12,12 @@ use Rattle.book.proofs.reading.answer_after.Tie as tie
 abbrev told : ℕ → Step → Answer Counts
 told line step = onResult (addedMeaning line step) (λ state. result (countsOf state))
 
-enum-known-step : tie.Need-enum-known-step
-enum-known-step c = search needs
-
-enum-known-step-2 : tie.Need-enum-known-step-2
-enum-known-step-2 c = search needs
-
 returns : tie.Need-returns
 returns c = ap (told (c .before .before .before .args .line)) (sym (c .before .step .given .1))
 
 returns-2 : tie.Need-returns-2
 returns-2 c = ap (told (c .before .before .before .args .line)) (sym (c .before .step2 .given .1))
 
+-- the other needs are found by search
 pub answer-after-spec : {M : Type 1} → statement M
-answer-after-spec = tie.close (tie.spec enum-known-step enum-known-step-2 returns returns-2)
+answer-after-spec = tie.close (tie.spec (λ c. search needs) (λ c. search needs) returns returns-2)

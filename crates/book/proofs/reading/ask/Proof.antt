@@ -9,15 +9,6 @@ use Rattle.book.proofs.AskedLaws.{asked-refused, asked-none, asked-foun
 use Rattle.book.proofs.reading.ask.Statement.{statement}
 use Rattle.book.proofs.reading.ask.Tie as tie
 
-read-requires : tie.Need-read-requires
-read-requires c κs = search needs
-
-enum-known-answer : tie.Need-enum-known-answer
-enum-known-answer c = search needs
-
-enum-known-answer-2 : tie.Need-enum-known-answer-2
-enum-known-answer-2 c = search needs
-
 -- the counts that were told
 told : (c : tie.After-answer)
     → result (record { policies = c .answer .given .0 .0; conditions = c .answer .given .0 .1 .0 }) ≡ checked (now (c .before .before .before .before .before .args .bytes))
@@ -43,7 +34,8 @@ returns-3 c =
     let s = r .before .before .before in
     asked-refused (now (s .args .bytes)) (s .args .condition) _ _ (ap checkedMeaning (sym (a .answer2 .given .1)) ∙ r .read .ensures .0)
 
+-- the other needs are found by search
 pub ask-spec : {M : Type 1} → statement M
 ask-spec =
     tie.close
-    (tie.spec read-requires enum-known-answer enum-known-answer-2 returns returns-2 returns-3)
+    (tie.spec (λ c κs. search needs) (λ c. search needs) (λ c. search needs) returns returns-2 returns-3)

@@ -32,23 +32,14 @@ module _ (c : tie.After-line-end Inv-loop μ-loop) where
   line-within : c .line-end .result ≤ length text
   line-within = end-within 10 text (turn .loop .at) _ (omega arith) (c .line-end .ensures)
 
-book-fits-requires : tie.Need-book-fits-requires Inv-loop μ-loop
-book-fits-requires c κs = search needs
-
 -- the book is not too long
 short : (c : tie.Else1 Inv-loop μ-loop) → bookFits (length (now (c .before .before .before .args .bytes))) ≡ true
 short c = sym (c .before .book-fits .ensures) ∙ not-false _ (c .if1 .left)
-
-answer-after-requires : tie.Need-answer-after-requires Inv-loop μ-loop
-answer-after-requires c κs = search needs
 
 returns : tie.Need-returns Inv-loop μ-loop
 returns c =
     let t = c .before in
     tells-refusal _ TooLong 0 (c .answer-after .result) _ _ (read-too-long _ (sym (t .before .book-fits .ensures) ∙ not-true _ (t .if1 .taken))) refl (c .answer-after .ensures)
-
-put-nothing-requires : tie.Need-put-nothing-requires Inv-loop μ-loop
-put-nothing-requires c κs = search needs
 
 loop-holds : tie.Need-loop-holds Inv-loop μ-loop
 loop-holds c = (omega arith, going-first _ _ (short (c .before .before)) (c .put-nothing .ensures))
@@ -67,15 +58,6 @@ part-add-line-end c = line-within (c .before)
 
 add-line-requires : tie.Need-add-line-requires Inv-loop μ-loop
 add-line-requires c κs = let g = turn (c .before .before) .loop .inv .1 in (g .so, g .held)
-
-enum-known-step : tie.Need-enum-known-step Inv-loop μ-loop
-enum-known-step c = search needs
-
-enum-told : tie.Need-enum-told Inv-loop μ-loop
-enum-told c = search needs
-
-answer-after-requires-2 : tie.Need-answer-after-requires-2 Inv-loop μ-loop
-answer-after-requires-2 c κs = search needs
 
 returns-2 : tie.Need-returns-2 Inv-loop μ-loop
 returns-2 c =
@@ -113,35 +95,15 @@ loop-again c =
       going-on (text x) (l .loop .at) (l .loop .line) _ _ _ g (x .before .loop-test .taken) (x .line-end .ensures) (t .result) _ (t .ensures (l .loop .line) (g .so) (g .held) refl) _ (m .step .given .1),
     )
 
-answer-after-requires-3 : tie.Need-answer-after-requires-3 Inv-loop μ-loop
-answer-after-requires-3 c κs = search needs
-
 returns-3 : tie.Need-returns-3 Inv-loop μ-loop
 returns-3 c = let l = c .before in tells-book _ _ _ _ _ (c .answer-after3 .result) (l .before .loop .inv .1) (l .loop-test .left) (c .answer-after3 .ensures)
 
+-- the other needs are found by search
 pub read-spec : {M : Type 1} → statement M
 read-spec =
     tie.close
     (tie.spec
-    Inv-loop
-    μ-loop
-    book-fits-requires
-    answer-after-requires
-    returns
-    put-nothing-requires
-    loop-holds
-    line-end-requires
-    sub-add-line
-    part-add-line-start
-    part-add-line-end
-    add-line-requires
-    enum-known-step
-    enum-told
-    answer-after-requires-2
-    returns-2
-    add-at
-    add-line
-    loop-less
-    loop-again
-    answer-after-requires-3
+    Inv-loop μ-loop (λ c κs. search needs) (λ c κs. search needs) returns (λ c κs. search needs) loop-holds
+    line-end-requires sub-add-line part-add-line-start part-add-line-end add-line-requires (λ c. search needs)
+    (λ c. search needs) (λ c κs. search needs) returns-2 add-at add-line loop-less loop-again (λ c κs. search needs)
     returns-3)

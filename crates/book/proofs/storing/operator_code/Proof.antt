@@ -5,18 +5,6 @@ use Rattle.book.specs.Cells.{operatorCode}
 use Rattle.book.proofs.storing.operator_code.Statement.{statement}
 use Rattle.book.proofs.storing.operator_code.Tie as tie
 
-enum-told : tie.Need-enum-told
-enum-told c = search needs
-
-enum-told-2 : tie.Need-enum-told-2
-enum-told-2 c = search needs
-
-enum-told-3 : tie.Need-enum-told-3
-enum-told-3 c = search needs
-
-enum-told-4 : tie.Need-enum-told-4
-enum-told-4 c = search needs
-
 returns : tie.Need-returns
 returns c = ap operatorCode (sym (c .enum-told .given .1))
 
@@ -29,7 +17,10 @@ returns-3 c = ap operatorCode (sym (c .enum-told3 .given .1))
 returns-4 : tie.Need-returns-4
 returns-4 c = ap operatorCode (sym (c .enum-told4 .given .1))
 
+-- the other needs are found by search
 pub operator-code-spec : {M : Type 1} → statement M
 operator-code-spec =
     tie.close
-    (tie.spec enum-told enum-told-2 enum-told-3 enum-told-4 returns returns-2 returns-3 returns-4)
+    (tie.spec
+    (λ c. search needs) (λ c. search needs) (λ c. search needs) (λ c. search needs) returns returns-2 returns-3
+    returns-4)

@@ -33,12 +33,6 @@ count-back c = toZ-pos w32 (count c) (omega (arith, few c))
 next-fits : (c : tie.After-all) → SFits w32 (pos (count c + 1))
 next-fits c = record { sfits = omega (arith, few c) }
 
-exclusion-count-requires : tie.Need-exclusion-count-requires
-exclusion-count-requires c κs = search needs
-
-cast-all : tie.Need-cast-all
-cast-all c = search needs
-
 add-all : tie.Need-add-all
 add-all c = record { fits = omega (arith, few c) }
 
@@ -47,9 +41,6 @@ mul-all c = record { fits = omega (arith, few c) }
 
 slice-set-from-all : tie.Need-slice-set-from-all
 slice-set-from-all c = omega (arith, few c, long c)
-
-cast-all-2 : tie.Need-cast-all-2
-cast-all-2 c = search needs
 
 add-all-2 : tie.Need-add-all-2
 add-all-2 c = record { fits = omega (arith, few c) }
@@ -79,20 +70,10 @@ returns c =
     (toZ-pos w32 (s .args .second) (omega (arith, s .pre .secondSmall)))
     (ap (λ (z : ℤ). toZ w32 (ofZ w32 (z +ℤ pos 1))) (count-back c) ∙ toZ-ofZ w32 (pos (count c + 1)) (next-fits c))
 
+-- the other needs are found by search
 pub put-exclusion-spec : {M : Type 1} → statement M
 put-exclusion-spec =
     tie.close
     (tie.spec
-    exclusion-count-requires
-    cast-all
-    add-all
-    mul-all
-    slice-set-from-all
-    cast-all-2
-    add-all-2
-    mul-all-2
-    slice-set-from-all-2
-    cast-all-3
-    add-all-3
-    slice-set-from-all-3
-    returns)
+    (λ c κs. search needs) (λ c. search needs) add-all mul-all slice-set-from-all (λ c. search needs) add-all-2
+    mul-all-2 slice-set-from-all-2 cast-all-3 add-all-3 slice-set-from-all-3 returns)

@@ -8,11 +8,9 @@ use Rattle.book.proofs.StoredExclusions.{nothing-put}
 use Rattle.book.proofs.storing.put_nothing.Statement.{statement}
 use Rattle.book.proofs.storing.put_nothing.Tie as tie
 
-slice-set-of-all : tie.Need-slice-set-of-all
-slice-set-of-all c = search needs
-
 returns : tie.Need-returns
 returns c = let long : length (now (c .before .args .cells)) ≡ cellCount = search needs in nothing-put (now (c .before .args .cells)) long
 
+-- the other needs are found by search
 pub put-nothing-spec : {M : Type 1} → statement M
-put-nothing-spec = tie.close (tie.spec slice-set-of-all returns)
+put-nothing-spec = tie.close (tie.spec (λ c. search needs) returns)

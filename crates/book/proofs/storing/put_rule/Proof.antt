@@ -46,29 +46,8 @@ small c =
     let fits : Fits w16 (c .before .mask-at .result) = search needs in
     omega (arith, fits .fits, c .bit .ensures, set-below 16 (s .args .signal ∷ []) (s .pre .small, tt) (tt, tt))
 
-count-at-requires : tie.Need-count-at-requires
-count-at-requires c κs = search needs
-
-mask-at-requires : tie.Need-mask-at-requires
-mask-at-requires c κs = search needs
-
-cast-mask : tie.Need-cast-mask
-cast-mask c = search needs
-
-bit-requires : tie.Need-bit-requires
-bit-requires c κs = search needs
-
 add-mask : tie.Need-add-mask
 add-mask c = record { fits = omega (arith, small c) }
-
-cast-all : tie.Need-cast-all
-cast-all c = search needs
-
-mul-all : tie.Need-mul-all
-mul-all c = search needs
-
-add-all : tie.Need-add-all
-add-all c = search needs
 
 add-all-2 : tie.Need-add-all-2
 add-all-2 c = record { fits = omega (arith, few c, begin c .pre .kept .below) }
@@ -78,12 +57,6 @@ mul-all-2 c = record { fits = omega (arith, few c, begin c .pre .kept .below) }
 
 slice-set-from-all : tie.Need-slice-set-from-all
 slice-set-from-all c = omega (arith, few c, begin c .pre .kept .below, long c)
-
-mul-score : tie.Need-mul-score
-mul-score c = search needs
-
-add-score : tie.Need-add-score
-add-score c = search needs
 
 add-score-2 : tie.Need-add-score-2
 add-score-2 c = record { fits = omega (arith, few c, begin c .pre .kept .below) }
@@ -100,29 +73,11 @@ cast-all-2 c = record { sfits = omega (arith, few c) }
 add-all-3 : tie.Need-add-all-3
 add-all-3 c = subst (λ (z : ℤ). SFits w32 (z +ℤ pos 1)) (sym (count-back c)) (next-fits c)
 
-mul-t16 : tie.Need-mul-t16
-mul-t16 c = search needs
-
-add-t17 : tie.Need-add-t17
-add-t17 c = search needs
-
-mul-t18 : tie.Need-mul-t18
-mul-t18 c = search needs
-
 slice-set-from-all-2 : tie.Need-slice-set-from-all-2
 slice-set-from-all-2 c = simp length-set (omega (arith, begin c .pre .kept .below, long c))
 
 cast-all-3 : tie.Need-cast-all-3
 cast-all-3 c = record { sfits = omega (arith, small (c .before)) }
-
-mul-t15 : tie.Need-mul-t15
-mul-t15 c = search needs
-
-add-t17-2 : tie.Need-add-t17-2
-add-t17-2 c = search needs
-
-mul-t16-2 : tie.Need-mul-t16-2
-mul-t16-2 c = search needs
 
 slice-set-from-all-3 : tie.Need-slice-set-from-all-3
 slice-set-from-all-3 c = simp length-set (omega (arith, begin c .pre .kept .below, long c))
@@ -141,35 +96,13 @@ returns c =
     (toZ-pos w32 (m .mask-at .result + c .before .bit .result) (omega (arith, small (c .before)))
     ∙ ap pos (ap₂ _+_ (m .mask-at .ensures (lastPolicy b) held) (c .before .bit .ensures)))
 
+-- the other needs are found by search
 pub put-rule-spec : {M : Type 1} → statement M
 put-rule-spec =
     tie.close
     (tie.spec
-    count-at-requires
-    mask-at-requires
-    cast-mask
-    bit-requires
-    add-mask
-    cast-all
-    mul-all
-    add-all
-    add-all-2
-    mul-all-2
-    slice-set-from-all
-    mul-score
-    add-score
-    add-score-2
-    mul-score-2
-    slice-set-from-score
-    cast-all-2
-    add-all-3
-    mul-t16
-    add-t17
-    mul-t18
-    slice-set-from-all-2
-    cast-all-3
-    mul-t15
-    add-t17-2
-    mul-t16-2
-    slice-set-from-all-3
-    returns)
+    (λ c κs. search needs) (λ c κs. search needs) (λ c. search needs) (λ c κs. search needs) add-mask
+    (λ c. search needs) (λ c. search needs) (λ c. search needs) add-all-2 mul-all-2 slice-set-from-all
+    (λ c. search needs) (λ c. search needs) add-score-2 mul-score-2 slice-set-from-score cast-all-2 add-all-3
+    (λ c. search needs) (λ c. search needs) (λ c. search needs) slice-set-from-all-2 cast-all-3 (λ c. search needs)
+    (λ c. search needs) (λ c. search needs) slice-set-from-all-3 returns)

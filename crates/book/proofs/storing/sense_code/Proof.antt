@@ -5,17 +5,12 @@ use Rattle.book.specs.Cells.{senseCode}
 use Rattle.book.proofs.storing.sense_code.Statement.{statement}
 use Rattle.book.proofs.storing.sense_code.Tie as tie
 
-enum-told : tie.Need-enum-told
-enum-told c = search needs
-
-enum-told-2 : tie.Need-enum-told-2
-enum-told-2 c = search needs
-
 returns : tie.Need-returns
 returns c = ap senseCode (sym (c .enum-told .given .1))
 
 returns-2 : tie.Need-returns-2
 returns-2 c = ap senseCode (sym (c .enum-told2 .given .1))
 
+-- the other needs are found by search
 pub sense-code-spec : {M : Type 1} → statement M
-sense-code-spec = tie.close (tie.spec enum-told enum-told-2 returns returns-2)
+sense-code-spec = tie.close (tie.spec (λ c. search needs) (λ c. search needs) returns returns-2)

@@ -26,21 +26,6 @@ loop-holds : tie.Need-loop-holds Inv-loop μ-loop
 unfolding noRecord
 loop-holds c = (omega arith, whole _ (omega arith) (omega arith))
 
-after-lines-requires : tie.Need-after-lines-requires Inv-loop μ-loop
-after-lines-requires c κs = search needs
-
-step-at-requires : tie.Need-step-at-requires Inv-loop μ-loop
-step-at-requires c κs = search needs
-
-enum-known-next : tie.Need-enum-known-next Inv-loop μ-loop
-enum-known-next c = search needs
-
-enum-told : tie.Need-enum-told Inv-loop μ-loop
-enum-told c = search needs
-
-add-t14 : tie.Need-add-t14 Inv-loop μ-loop
-add-t14 c = search needs
-
 returns-3 : tie.Need-returns-3 Inv-loop μ-loop
 returns-3 c =
     let a = c .before .before in
@@ -67,22 +52,10 @@ returns-5 c =
     let l = c .before .before .before in
     sym (judged-left _ _ _ (omega arith) (c .if3 .left)) ∙ l .loop .inv .1
 
+-- the other needs are found by search
 pub check-spec : {M : Type 1} → statement M
 check-spec =
     tie.close
     (tie.spec
-    Inv-loop
-    μ-loop
-    returns
-    returns-2
-    loop-holds
-    after-lines-requires
-    step-at-requires
-    enum-known-next
-    enum-told
-    add-t14
-    returns-3
-    loop-less
-    loop-again
-    returns-4
-    returns-5)
+    Inv-loop μ-loop returns returns-2 loop-holds (λ c κs. search needs) (λ c κs. search needs) (λ c. search needs)
+    (λ c. search needs) (λ c. search needs) returns-3 loop-less loop-again returns-4 returns-5)

@@ -13,17 +13,11 @@ returns c = exclusion-low _ _ _ _ (c .if1 .taken)
 returns-2 : tie.Need-returns-2
 returns-2 c = exclusion-many _ _ _ _ (c .if2 .taken)
 
-is-pair-requires : tie.Need-is-pair-requires
-is-pair-requires c κs = search needs
-
 returns-3 : tie.Need-returns-3
 returns-3 c = exclusion-mask _ _ _ _ (sym (c .before .is-pair .ensures) ∙ not-true _ (c .if3 .taken))
 
 returns-4 : tie.Need-returns-4
 returns-4 c = exclusion-lines _ _ _ _ (c .if4 .taken)
-
-cast-if5 : tie.Need-cast-if5
-cast-if5 c = search needs
 
 returns-5 : tie.Need-returns-5
 returns-5 c = exclusion-next _ _ _ _ (c .if5 .taken)
@@ -36,5 +30,9 @@ returns-7 c =
     let p = c .before .before .before .before .before in
     exclusion-kept _ _ _ _ (omega arith) (omega arith) (sym (p .before .is-pair .ensures) ∙ not-false _ (p .if3 .left)) (omega arith) (omega arith) (omega (arith, c .if6 .left))
 
+-- the other needs are found by search
 pub exclusion-step-spec : {M : Type 1} → statement M
-exclusion-step-spec = tie.close (tie.spec returns returns-2 is-pair-requires returns-3 returns-4 cast-if5 returns-5 returns-6 returns-7)
+exclusion-step-spec =
+    tie.close
+    (tie.spec
+    returns returns-2 (λ c κs. search needs) returns-3 returns-4 (λ c. search needs) returns-5 returns-6 returns-7)

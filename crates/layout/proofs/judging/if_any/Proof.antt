@@ -4,14 +4,12 @@ use borrow.Author.Needs.{needs}
 use Rattle.layout.proofs.judging.if_any.Statement.{statement}
 use Rattle.layout.proofs.judging.if_any.Tie as tie
 
-add-result : tie.Need-add-result
-add-result c = search needs
-
 returns : tie.Need-returns
 returns c = search (needs, any-there)
 
 returns-2 : tie.Need-returns-2
 returns-2 c = search (needs, any-end)
 
+-- the other needs are found by search
 pub if-any-spec : {M : Type 1} → statement M
-if-any-spec = tie.close (tie.spec add-result returns returns-2)
+if-any-spec = tie.close (tie.spec (λ c. search needs) returns returns-2)

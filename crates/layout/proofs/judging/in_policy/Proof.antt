@@ -4,14 +4,12 @@ use Rattle.layout.proofs.StepLaws.{unowned, owned}
 use Rattle.layout.proofs.judging.in_policy.Statement.{statement}
 use Rattle.layout.proofs.judging.in_policy.Tie as tie
 
-lies-inside-requires : tie.Need-lies-inside-requires
-lies-inside-requires c κs = search needs
-
 returns : tie.Need-returns
 returns c = search (needs, owned)
 
 returns-2 : tie.Need-returns-2
 returns-2 c = search (needs, unowned)
 
+-- the other needs are found by search
 pub in-policy-spec : {M : Type 1} → statement M
-in-policy-spec = tie.close (tie.spec lies-inside-requires returns returns-2)
+in-policy-spec = tie.close (tie.spec (λ c κs. search needs) returns returns-2)

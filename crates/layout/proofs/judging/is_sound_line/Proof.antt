@@ -7,29 +7,14 @@ use Rattle.layout.proofs.Passing.{line-passed}
 use Rattle.layout.proofs.judging.is_sound_line.Statement.{statement}
 use Rattle.layout.proofs.judging.is_sound_line.Tie as tie
 
-record-at-requires : tie.Need-record-at-requires
-record-at-requires c κs = search needs
-
 returns : tie.Need-returns
 returns c = λ e. absurd (false≢true e)
 
 returns-2 : tie.Need-returns-2
 returns-2 c = λ e. absurd (false≢true e)
 
-add-if-line : tie.Need-add-if-line
-add-if-line c = search needs
-
-if-line-requires : tie.Need-if-line-requires
-if-line-requires c κs = search needs
-
-cast-if3 : tie.Need-cast-if3
-cast-if3 c = search needs
-
 returns-3 : tie.Need-returns-3
 returns-3 c = λ e. absurd (false≢true e)
-
-lies-inside-requires : tie.Need-lies-inside-requires
-lies-inside-requires c κs = search needs
 
 returns-4 : tie.Need-returns-4
 returns-4 c =
@@ -37,16 +22,10 @@ returns-4 c =
     let r = f .before .before .before .before .before in
     λ e. line-passed _ _ _ _ _ (r .record-at .ensures) (f .if-line .ensures) (omega arith) (omega arith) (omega arith) (sym (c .lies-inside .ensures) ∙ e)
 
+-- the other needs are found by search
 pub is-sound-line-spec : {M : Type 1} → statement M
 is-sound-line-spec =
     tie.close
     (tie.spec
-    record-at-requires
-    returns
-    returns-2
-    add-if-line
-    if-line-requires
-    cast-if3
-    returns-3
-    lies-inside-requires
-    returns-4)
+    (λ c κs. search needs) returns returns-2 (λ c. search needs) (λ c κs. search needs) (λ c. search needs) returns-3
+    (λ c κs. search needs) returns-4)

@@ -11,20 +11,17 @@ returns c = join-mask _ _ _ (c .if1 .taken)
 returns-2 : tie.Need-returns-2
 returns-2 c = join-lines _ _ _ (c .if2 .taken)
 
-cast-if3 : tie.Need-cast-if3
-cast-if3 c = search needs
-
 returns-3 : tie.Need-returns-3
 returns-3 c = join-next _ _ _ (c .if3 .taken)
 
 returns-4 : tie.Need-returns-4
 returns-4 c = join-few _ _ _ (c .if4 .taken)
 
-sub-t5 : tie.Need-sub-t5
-sub-t5 c = search needs
-
 returns-5 : tie.Need-returns-5
 returns-5 c = join-kept _ _ _ (omega arith) (omega arith) (omega arith) (omega arith)
 
+-- the other needs are found by search
 pub join-step-spec : {M : Type 1} → statement M
-join-step-spec = tie.close (tie.spec returns returns-2 cast-if3 returns-3 returns-4 sub-t5 returns-5)
+join-step-spec =
+    tie.close
+    (tie.spec returns returns-2 (λ c. search needs) returns-3 returns-4 (λ c. search needs) returns-5)

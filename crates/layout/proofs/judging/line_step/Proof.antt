@@ -7,17 +7,11 @@ use Rattle.layout.proofs.StepLaws.{line-outside, line-lines, line-next,
 use Rattle.layout.proofs.judging.line_step.Statement.{statement}
 use Rattle.layout.proofs.judging.line_step.Tie as tie
 
-in-policy-requires : tie.Need-in-policy-requires
-in-policy-requires c κs = search needs
-
 returns : tie.Need-returns
 returns c = line-outside _ _ _ (sym (c .before .in-policy .ensures) ∙ sym (Bool·not-not _) ∙ ap not (c .if1 .taken))
 
 returns-2 : tie.Need-returns-2
 returns-2 c = line-lines _ _ _ (c .if2 .taken)
-
-cast-if3 : tie.Need-cast-if3
-cast-if3 c = search needs
 
 returns-3 : tie.Need-returns-3
 returns-3 c = line-next _ _ _ (c .if3 .taken)
@@ -27,5 +21,6 @@ returns-4 c =
     let p = c .before .before .before .before in
     line-kept _ _ _ (sym (p .before .in-policy .ensures) ∙ sym (Bool·not-not _) ∙ ap not (p .if1 .left)) (omega arith) (omega arith)
 
+-- the other needs are found by search
 pub line-step-spec : {M : Type 1} → statement M
-line-step-spec = tie.close (tie.spec in-policy-requires returns returns-2 cast-if3 returns-3 returns-4)
+line-step-spec = tie.close (tie.spec (λ c κs. search needs) returns returns-2 (λ c. search needs) returns-3 returns-4)

@@ -8,14 +8,8 @@ use Rattle.layout.proofs.judging.policy_step.Tie as tie
 returns : tie.Need-returns
 returns c = policy-mask _ _ _ _ (c .if1 .taken)
 
-cast-if2 : tie.Need-cast-if2
-cast-if2 c = search needs
-
 returns-2 : tie.Need-returns-2
 returns-2 c = policy-lines _ _ _ _ (c .if2 .taken)
-
-cast-if3 : tie.Need-cast-if3
-cast-if3 c = search needs
 
 returns-3 : tie.Need-returns-3
 returns-3 c = policy-next _ _ _ _ (c .if3 .taken)
@@ -23,17 +17,13 @@ returns-3 c = policy-next _ _ _ _ (c .if3 .taken)
 returns-4 : tie.Need-returns-4
 returns-4 c = policy-many _ _ _ _ (c .if4 .taken)
 
-cast-t7 : tie.Need-cast-t7
-cast-t7 c = search needs
-
-add-t6 : tie.Need-add-t6
-add-t6 c = search needs
-
-add-t8 : tie.Need-add-t8
-add-t8 c = search needs
-
 returns-5 : tie.Need-returns-5
 returns-5 c = policy-kept _ _ _ _ (omega arith) (omega arith) (omega arith) (omega arith)
 
+-- the other needs are found by search
 pub policy-step-spec : {M : Type 1} → statement M
-policy-step-spec = tie.close (tie.spec returns cast-if2 returns-2 cast-if3 returns-3 returns-4 cast-t7 add-t6 add-t8 returns-5)
+policy-step-spec =
+    tie.close
+    (tie.spec
+    returns (λ c. search needs) returns-2 (λ c. search needs) returns-3 returns-4 (λ c. search needs)
+    (λ c. search needs) (λ c. search needs) returns-5)

@@ -6,17 +6,11 @@ use Rattle.layout.proofs.KindLaws.{kind-of-bytes}
 use Rattle.layout.proofs.records.policy_kind.Statement.{statement}
 use Rattle.layout.proofs.records.policy_kind.Tie as tie
 
-cast-result : tie.Need-cast-result
-cast-result c = search needs
-
 mul-result : tie.Need-mul-result
 mul-result c = omega (arith, byte-small (c .args .quiet))
 
 add-result : tie.Need-add-result
 add-result c = omega (arith, byte-small (c .args .quiet))
-
-cast-result-2 : tie.Need-cast-result-2
-cast-result-2 c = search needs
 
 mul-result-2 : tie.Need-mul-result-2
 mul-result-2 c = omega (arith, byte-small (c .args .turned))
@@ -27,7 +21,8 @@ add-result-2 c = omega (arith, byte-small (c .args .quiet), byte-small (c .args 
 returns : tie.Need-returns
 returns c = kind-of-bytes (c .args .quiet) (c .args .turned)
 
+-- the other needs are found by search
 pub policy-kind-spec : {M : Type 1} → statement M
 policy-kind-spec =
     tie.close
-    (tie.spec cast-result mul-result add-result cast-result-2 mul-result-2 add-result-2 returns)
+    (tie.spec (λ c. search needs) mul-result add-result (λ c. search needs) mul-result-2 add-result-2 returns)

@@ -8,15 +8,6 @@ use Rattle.layout.specs.Writing.{putRecord, lineRecord}
 use Rattle.layout.proofs.writing.put_line.Statement.{statement}
 use Rattle.layout.proofs.writing.put_line.Tie as tie
 
-next-line-requires : tie.Need-next-line-requires
-next-line-requires c κs = search needs
-
-put-record-requires : tie.Need-put-record-requires
-put-record-requires c κs = search needs
-
-same-length : tie.Need-same-length
-same-length c = search needs
-
 returns : tie.Need-returns
 unfolding lineRecord lineKind
 returns c =
@@ -26,5 +17,6 @@ returns c =
     r .put-record .ensures
     ∙ ap (λ (k : ℕ). putRecord (now (a .words)) (a .n) (record { kind = 4; mask = a .mask; lines = 0; next = k })) (n .next-line .ensures)
 
+-- the other needs are found by search
 pub put-line-spec : {M : Type 1} → statement M
-put-line-spec = tie.close (tie.spec next-line-requires put-record-requires same-length returns)
+put-line-spec = tie.close (tie.spec (λ c κs. search needs) (λ c κs. search needs) (λ c. search needs) returns)

@@ -8,9 +8,6 @@ use Rattle.score.proofs.PairLaws.{choice-by}
 use Rattle.score.proofs.exact.chosen.Statement.{statement}
 use Rattle.score.proofs.exact.chosen.Tie as tie
 
-in-order-requires : tie.Need-in-order-requires
-in-order-requires c κs = search needs
-
 -- by the two tests
 by-tests : (c : tie.After-in-order) (m inOrder : Bool) → c .before .args .larger ≡ m → c .in-order .result ≡ inOrder → let a = c .before .args in
     ForScores (a .one) (a .two) (λ v w. Is (cond inOrder (cond m (a .two) (a .one)) (cond m (a .one) (a .two))) (ofTwo (minMaxMeaning (a .larger)) v w))
@@ -31,5 +28,6 @@ returns-3 c = by-tests (c .before .before) _ _ (c .if3 .taken) (c .before .if1 .
 returns-4 : tie.Need-returns-4
 returns-4 c = by-tests (c .before .before) _ _ (c .if3 .left) (c .before .if1 .left)
 
+-- the other needs are found by search
 pub chosen-spec : {M : Type 1} → statement M
-chosen-spec = tie.close (tie.spec in-order-requires returns returns-2 returns-3 returns-4)
+chosen-spec = tie.close (tie.spec (λ c κs. search needs) returns returns-2 returns-3 returns-4)

@@ -12,21 +12,6 @@ use Rattle.score.proofs.exact.meets.Tie as tie
 cast-whole : tie.Need-cast-whole
 cast-whole c = wide-fits (c .args .threshold) (c .fits .threshold)
 
-whole-requires : tie.Need-whole-requires
-whole-requires c κs = search needs
-
-enum-told : tie.Need-enum-told
-enum-told c = search needs
-
-in-order-requires : tie.Need-in-order-requires
-in-order-requires c κs = search needs
-
-enum-told-2 : tie.Need-enum-told-2
-enum-told-2 c = search needs
-
-in-order-requires-2 : tie.Need-in-order-requires-2
-in-order-requires-2 c κs = search needs
-
 -- the threshold, in parts
 is-threshold : (c : tie.After-whole) → Is (c .whole .result) (scaled (c .before .args .threshold))
 is-threshold c = subst (λ (z : ℤ). Is (c .whole .result) (scaled z)) (wide-back (c .before .args .threshold) (c .before .fits .threshold)) (c .whole .ensures)
@@ -47,15 +32,10 @@ returns-2 c =
     c .in-order2 .ensures v (scaled (w .before .args .threshold)) i (is-threshold w)
     ∙ ap (λ (o : Sense). meets o (w .before .args .threshold) v) (sym (c .before .enum-told2 .given .1))
 
+-- the other needs are found by search
 pub meets-spec : {M : Type 1} → statement M
 meets-spec =
     tie.close
     (tie.spec
-    cast-whole
-    whole-requires
-    enum-told
-    in-order-requires
-    enum-told-2
-    in-order-requires-2
-    returns
-    returns-2)
+    cast-whole (λ c κs. search needs) (λ c. search needs) (λ c κs. search needs) (λ c. search needs)
+    (λ c κs. search needs) returns returns-2)

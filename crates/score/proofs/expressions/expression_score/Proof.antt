@@ -31,9 +31,6 @@ abbrev μ-loop : tie.MeasureT-loop
 length-at-requires : tie.Need-length-at-requires Inv-loop μ-loop
 length-at-requires c κs = c .pre
 
-whole-requires : tie.Need-whole-requires Inv-loop μ-loop
-whole-requires c κs = search needs
-
 loop-holds : tie.Need-loop-holds Inv-loop μ-loop
 loop-holds c = (omega arith, λ h. at-start (h .book .policies) (c .before .before .args .set) (h .condition .expression) _ refl)
 
@@ -87,9 +84,6 @@ mul-two c = omega (arith, two-wait (c .before))
 array-copy-out-two : tie.Need-array-copy-out-two Inv-loop μ-loop
 array-copy-out-two c = omega (arith, two-wait (c .before))
 
-chosen-requires : tie.Need-chosen-requires Inv-loop μ-loop
-chosen-requires c κs = search needs
-
 sub-scores : tie.Need-sub-scores Inv-loop μ-loop
 sub-scores c = omega (arith, two-wait (c .before .before .before))
 
@@ -118,9 +112,6 @@ module _ (c : tie.Else1 Inv-loop μ-loop) where
       let h = start round .pre in
       value-room (h .book .policies) (start round .args .set) (h .condition .expression) (round .loop .i) (round .loop .scores) (round .loop .height) (round .loop .inv .1 h) _ (mentioned h)
       (omega (arith, c .before .before .loop-test .taken, codes round h, codes-nodes (h .condition .expression))) (omega (arith, few round, codes round h, codes-nodes (h .condition .expression)))
-
-cast-k : tie.Need-cast-k Inv-loop μ-loop
-cast-k c = search needs
 
 policy-score-requires : tie.Need-policy-score-requires Inv-loop μ-loop
 policy-score-requires c κs =
@@ -182,9 +173,6 @@ loop-again c =
           (c .if1 .came),
     )
 
-array-copy-out-result : tie.Need-array-copy-out-result Inv-loop μ-loop
-array-copy-out-result c = search needs
-
 returns : tie.Need-returns Inv-loop μ-loop
 unfolding noScore
 returns c =
@@ -193,34 +181,12 @@ returns c =
     at-end (h .book .policies) (start l .args .set) (h .condition .expression) (l .loop .i) (l .loop .scores) (l .loop .height) (l .loop .inv .1 h)
     (omega (arith, codes l h, codes-nodes (h .condition .expression), c .before .loop-test .left))
 
+-- the other needs are found by search
 pub expression-score-spec : {M : Type 1} → statement M
 expression-score-spec =
     tie.close
     (tie.spec
-    Inv-loop
-    μ-loop
-    length-at-requires
-    whole-requires
-    loop-holds
-    code-at-requires
-    sub-one
-    mul-one
-    array-copy-out-one
-    sub-two
-    mul-two
-    array-copy-out-two
-    chosen-requires
-    sub-scores
-    mul-scores
-    array-set-from-scores
-    sub-height
-    cast-k
-    policy-score-requires
-    mul-scores-2
-    array-set-from-scores-2
-    add-height
-    add-i
-    loop-less
-    loop-again
-    array-copy-out-result
-    returns)
+    Inv-loop μ-loop length-at-requires (λ c κs. search needs) loop-holds code-at-requires sub-one mul-one
+    array-copy-out-one sub-two mul-two array-copy-out-two (λ c κs. search needs) sub-scores mul-scores
+    array-set-from-scores sub-height (λ c. search needs) policy-score-requires mul-scores-2 array-set-from-scores-2
+    add-height add-i loop-less loop-again (λ c. search needs) returns)

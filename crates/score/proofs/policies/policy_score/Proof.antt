@@ -25,9 +25,6 @@ use Rattle.score.proofs.policies.policy_score.Tie as tie
 present-rules-requires : tie.Need-present-rules-requires
 present-rules-requires c κs = c .pre
 
-whole-requires : tie.Need-whole-requires
-whole-requires c κs = search needs
-
 -- the value as it is read back
 value-back : (c : tie.After-struct-told) → let r = c .before .present-rules .result in toZ w64 (ofZ w64 (r .value)) ≡ r .value
 value-back c =
@@ -43,12 +40,6 @@ returns c =
     subst (Is (c .whole .result))
     (ap scaled (value-back t) ∙ none-present (s .args .set) q (r .present-rules .result) (r .present-rules .ensures q e) (c .before .if1 .taken))
     (c .whole .ensures)
-
-operator-at-requires : tie.Need-operator-at-requires
-operator-at-requires c κs = search needs
-
-enum-told : tie.Need-enum-told
-enum-told c = search needs
 
 -- in mul the value is a natural
 module _ (c : tie.After-enum-told) where
@@ -74,9 +65,6 @@ cast-of-product c =
 
 of-product-requires : tie.Need-of-product-requires
 of-product-requires c κs = let n = natural c in (omega (arith, n .2, ap natAbs (n .1)), n .3)
-
-whole-requires-2 : tie.Need-whole-requires-2
-whole-requires-2 c κs = search needs
 
 returns-2 : tie.Need-returns-2
 returns-2 c =
@@ -113,17 +101,10 @@ returns-3 c =
     (λ m. not-mul _ (c .before .match .keys2) (p .operator-at .ensures q h ∙ m)))
     (c .whole2 .ensures)
 
+-- the other needs are found by search
 pub policy-score-spec : {M : Type 1} → statement M
 policy-score-spec =
     tie.close
     (tie.spec
-    present-rules-requires
-    whole-requires
-    returns
-    operator-at-requires
-    enum-told
-    cast-of-product
-    of-product-requires
-    whole-requires-2
-    returns-2
-    returns-3)
+    present-rules-requires (λ c κs. search needs) returns (λ c κs. search needs) (λ c. search needs) cast-of-product
+    of-product-requires (λ c κs. search needs) returns-2 returns-3)

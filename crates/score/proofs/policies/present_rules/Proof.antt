@@ -54,17 +54,11 @@ loop-holds c =
 abbrev start : tie.At-loop Inv-loop μ-loop → tie.Start Inv-loop μ-loop
 start l = l .before .before .before .before
 
-sub-i : tie.Need-sub-i Inv-loop μ-loop
-sub-i c = search needs
-
 rule-score-requires : tie.Need-rule-score-requires Inv-loop μ-loop
 rule-score-requires c κs =
     let l = c .before in
     let h = start l .pre in
     (h, omega (arith, l .loop .inv (h .policy) (h .held) .0, c .loop-test .taken))
-
-enum-known-scored : tie.Need-enum-known-scored Inv-loop μ-loop
-enum-known-scored c = search needs
 
 -- the rules present with rule i - 1, which counts v
 counted : (c : tie.After-known-told Inv-loop μ-loop) →
@@ -100,9 +94,6 @@ loop-again c =
     let l = c .before .before .before .before .before .before in
     λ q e. (omega (arith, l .loop .inv q e .0), c .with-score .ensures ∙ counted (c .before) q e)
 
-enum-told : tie.Need-enum-told Inv-loop μ-loop
-enum-told c = search needs
-
 loop-less-2 : tie.Need-loop-less-2 Inv-loop μ-loop
 loop-less-2 c = omega (arith, c .before .before .before .loop-test .taken)
 
@@ -123,24 +114,11 @@ returns c =
     let z : l .loop .i ≡ 0 = omega (arith, c .loop-test .left) in
     l .loop .inv q e .1 ∙ ap (λ (i : ℕ). presentOf q (presentRules (start l .args .set) (drop i (q .rules)))) z
 
+-- the other needs are found by search
 pub present-rules-spec : {M : Type 1} → statement M
 present-rules-spec =
     tie.close
     (tie.spec
-    Inv-loop
-    μ-loop
-    operator-at-requires
-    default-at-requires
-    cast-t10
-    count-at-requires
-    loop-holds
-    sub-i
-    rule-score-requires
-    enum-known-scored
-    with-score-requires
-    loop-less
-    loop-again
-    enum-told
-    loop-less-2
-    loop-again-2
-    returns)
+    Inv-loop μ-loop operator-at-requires default-at-requires cast-t10 count-at-requires loop-holds (λ c. search needs)
+    rule-score-requires (λ c. search needs) with-score-requires loop-less loop-again (λ c. search needs) loop-less-2
+    loop-again-2 returns)

@@ -16,9 +16,6 @@ Inv-loop s at word i₀ j₀ i j = (i ≤ length word) × (begins (drop i word) 
 abbrev μ-loop : tie.MeasureT-loop
 μ-loop s at word i₀ j₀ i j = length word - i
 
-loop-holds : tie.Need-loop-holds Inv-loop μ-loop
-loop-holds c = search needs
-
 returns : tie.Need-returns Inv-loop μ-loop
 returns c =
     let l = c .before .before in
@@ -60,19 +57,10 @@ returns-3 c =
     let a = l .before .args in
     sym (word-whole (now (a .word)) (now (a .bytes)) (l .loop .i) (l .loop .j) (c .loop-test .left)) ∙ l .loop .inv .1
 
+-- the other needs are found by search
 pub begins-spec : {M : Type 1} → statement M
 begins-spec =
     tie.close
     (tie.spec
-    Inv-loop
-    μ-loop
-    loop-holds
-    returns
-    shared-slice-read-if2
-    shared-slice-read-if2-2
-    returns-2
-    add-i
-    add-j
-    loop-less
-    loop-again
-    returns-3)
+    Inv-loop μ-loop (λ c. search needs) returns shared-slice-read-if2 shared-slice-read-if2-2 returns-2 add-i add-j
+    loop-less loop-again returns-3)

@@ -17,14 +17,8 @@ Inv-loop s at i₀ i = (i ≤ length s) × (at + digitCount (drop at s) ≡ i + 
 abbrev μ-loop : tie.MeasureT-loop
 μ-loop s at i₀ i = length s - i
 
-loop-holds : tie.Need-loop-holds Inv-loop μ-loop
-loop-holds c = search needs
-
 shared-slice-read-is-digit : tie.Need-shared-slice-read-is-digit Inv-loop μ-loop
 shared-slice-read-is-digit c = omega arith
-
-is-digit-requires : tie.Need-is-digit-requires Inv-loop μ-loop
-is-digit-requires c κs = search needs
 
 returns : tie.Need-returns Inv-loop μ-loop
 returns c =
@@ -47,17 +41,10 @@ returns-2 c =
     let l = c .before in
     omega (arith, count-done (now (l .before .before .args .bytes)) (l .loop .i) (c .loop-test .left))
 
+-- the other needs are found by search
 pub digits-end-spec : {M : Type 1} → statement M
 digits-end-spec =
     tie.close
     (tie.spec
-    Inv-loop
-    μ-loop
-    loop-holds
-    shared-slice-read-is-digit
-    is-digit-requires
-    returns
-    add-i
-    loop-less
-    loop-again
-    returns-2)
+    Inv-loop μ-loop (λ c. search needs) shared-slice-read-is-digit (λ c κs. search needs) returns add-i loop-less
+    loop-again returns-2)

@@ -7,11 +7,9 @@ use Rattle.text.proofs.bytes.has_byte.Tie as tie
 returns : tie.Need-returns
 returns c = no-byte _ _ _ (c .if1 .taken)
 
-shared-slice-read-result : tie.Need-shared-slice-read-result
-shared-slice-read-result c = search needs
-
 returns-2 : tie.Need-returns-2
 returns-2 c = byte-there _ _ _ (c .before .if1 .left)
 
+-- the other needs are found by search
 pub has-byte-spec : {M : Type 1} → statement M
-has-byte-spec = tie.close (tie.spec returns shared-slice-read-result returns-2)
+has-byte-spec = tie.close (tie.spec returns (λ c. search needs) returns-2)

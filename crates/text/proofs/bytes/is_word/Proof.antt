@@ -8,11 +8,9 @@ use Rattle.text.proofs.bytes.is_word.Tie as tie
 returns : tie.Need-returns
 returns c = other-length-is _ _ (c .if1 .taken)
 
-begins-requires : tie.Need-begins-requires
-begins-requires c κs = search needs
-
 returns-2 : tie.Need-returns-2
 returns-2 c = c .begins .ensures ∙ same-length-is _ _ (c .before .if1 .left)
 
+-- the other needs are found by search
 pub is-word-spec : {M : Type 1} → statement M
-is-word-spec = tie.close (tie.spec returns begins-requires returns-2)
+is-word-spec = tie.close (tie.spec returns (λ c κs. search needs) returns-2)

@@ -24,9 +24,6 @@ abbrev μ-loop2 : tie.MeasureT-loop2
 loop-holds : tie.Need-loop-holds Inv-loop μ-loop Inv-loop2 μ-loop2
 loop-holds c = (c .pre, record { passed = refl })
 
-add-loop : tie.Need-add-loop Inv-loop μ-loop Inv-loop2 μ-loop2
-add-loop c = search needs
-
 -- ---- four bytes
 
 -- after j bytes of a turn none of them is x
@@ -63,14 +60,8 @@ shared-slice-read-if1 c = omega arith
 returns : tie.Need-returns Inv-loop μ-loop Inv-loop2 μ-loop2
 returns c = let t = c .before .before in next-here (t .before .loop .inv .1) (omega (arith, t .loop-test .taken)) (c .if1 .taken)
 
-add-if2 : tie.Need-add-if2 Inv-loop μ-loop Inv-loop2 μ-loop2
-add-if2 c = search needs
-
 shared-slice-read-if2 : tie.Need-shared-slice-read-if2 Inv-loop μ-loop Inv-loop2 μ-loop2
 shared-slice-read-if2 c = omega (arith, c .before .before .before .loop-test .taken)
-
-add-result : tie.Need-add-result Inv-loop μ-loop Inv-loop2 μ-loop2
-add-result c = search needs
 
 returns-2 : tie.Need-returns-2 Inv-loop μ-loop Inv-loop2 μ-loop2
 returns-2 c =
@@ -78,14 +69,8 @@ returns-2 c =
     let t = b .before .before in
     next-here (none-1 b) (omega (arith, t .loop-test .taken)) (c .if2 .taken)
 
-add-if3 : tie.Need-add-if3 Inv-loop μ-loop Inv-loop2 μ-loop2
-add-if3 c = search needs
-
 shared-slice-read-if3 : tie.Need-shared-slice-read-if3 Inv-loop μ-loop Inv-loop2 μ-loop2
 shared-slice-read-if3 c = omega (arith, c .before .before .before .before .before .loop-test .taken)
-
-add-result-2 : tie.Need-add-result-2 Inv-loop μ-loop Inv-loop2 μ-loop2
-add-result-2 c = search needs
 
 returns-3 : tie.Need-returns-3 Inv-loop μ-loop Inv-loop2 μ-loop2
 returns-3 c =
@@ -93,23 +78,14 @@ returns-3 c =
     let t = b .before .before .before .before in
     next-here (none-2 b) (omega (arith, t .loop-test .taken)) (c .if3 .taken)
 
-add-if4 : tie.Need-add-if4 Inv-loop μ-loop Inv-loop2 μ-loop2
-add-if4 c = search needs
-
 shared-slice-read-if4 : tie.Need-shared-slice-read-if4 Inv-loop μ-loop Inv-loop2 μ-loop2
 shared-slice-read-if4 c = omega (arith, c .before .before .before .before .before .before .before .loop-test .taken)
-
-add-result-3 : tie.Need-add-result-3 Inv-loop μ-loop Inv-loop2 μ-loop2
-add-result-3 c = search needs
 
 returns-4 : tie.Need-returns-4 Inv-loop μ-loop Inv-loop2 μ-loop2
 returns-4 c =
     let b = c .before .before in
     let t = b .before .before .before .before .before .before in
     next-here (none-3 b) (omega (arith, t .loop-test .taken)) (c .if4 .taken)
-
-add-i : tie.Need-add-i Inv-loop μ-loop Inv-loop2 μ-loop2
-add-i c = search needs
 
 loop-less : tie.Need-loop-less Inv-loop μ-loop Inv-loop2 μ-loop2
 loop-less c = let t = c .before .before .before .before .before .before .before .before in omega (arith, t .loop-test .taken)
@@ -128,9 +104,6 @@ shared-slice-read-if5 c = omega arith
 returns-5 : tie.Need-returns-5 Inv-loop μ-loop Inv-loop2 μ-loop2
 returns-5 c = let t = c .before .before in next-here (t .before .loop2 .inv .1) (t .loop2-test .taken) (c .if5 .taken)
 
-add-i-2 : tie.Need-add-i-2 Inv-loop μ-loop Inv-loop2 μ-loop2
-add-i-2 c = search needs
-
 loop2-less : tie.Need-loop2-less Inv-loop μ-loop Inv-loop2 μ-loop2
 loop2-less c = let t = c .before .before in omega (arith, t .loop2-test .taken)
 
@@ -143,37 +116,12 @@ loop2-again c =
 returns-6 : tie.Need-returns-6 Inv-loop μ-loop Inv-loop2 μ-loop2
 returns-6 c = next-nowhere (c .before .loop2 .inv .1) (c .loop2-test .left)
 
+-- the other needs are found by search
 pub next-byte-spec : {M : Type 1} → statement M
 next-byte-spec =
     tie.close
     (tie.spec
-    Inv-loop
-    μ-loop
-    Inv-loop2
-    μ-loop2
-    loop-holds
-    add-loop
-    shared-slice-read-if1
-    returns
-    add-if2
-    shared-slice-read-if2
-    add-result
-    returns-2
-    add-if3
-    shared-slice-read-if3
-    add-result-2
-    returns-3
-    add-if4
-    shared-slice-read-if4
-    add-result-3
-    returns-4
-    add-i
-    loop-less
-    loop-again
-    loop2-holds
-    shared-slice-read-if5
-    returns-5
-    add-i-2
-    loop2-less
-    loop2-again
-    returns-6)
+    Inv-loop μ-loop Inv-loop2 μ-loop2 loop-holds (λ c. search needs) shared-slice-read-if1 returns (λ c. search needs)
+    shared-slice-read-if2 (λ c. search needs) returns-2 (λ c. search needs) shared-slice-read-if3 (λ c. search needs)
+    returns-3 (λ c. search needs) shared-slice-read-if4 (λ c. search needs) returns-4 (λ c. search needs) loop-less
+    loop-again loop2-holds shared-slice-read-if5 returns-5 (λ c. search needs) loop2-less loop2-again returns-6)

@@ -4,15 +4,6 @@ use Rattle.text.proofs.ExpressionLaws.{tree-read, no-tree, no-expressio
 use Rattle.text.proofs.expressions.read_expression.Statement.{statement}
 use Rattle.text.proofs.expressions.read_expression.Tie as tie
 
-read-leading-requires : tie.Need-read-leading-requires
-read-leading-requires c κs = search needs
-
-enum-known-end : tie.Need-enum-known-end
-enum-known-end c = search needs
-
-enum-told : tie.Need-enum-told
-enum-told c = search needs
-
 returns : tie.Need-returns
 returns c =
     let read = c .before .before in
@@ -30,5 +21,8 @@ returns-3 c =
     let read = found .before .before in
     whole-read _ _ (read .before .before .before .pre) _ (tree-read _ _ _ _ _ _ (read .read-leading .ensures) (found .end .given .1)) (c .if1 .left)
 
+-- the other needs are found by search
 pub read-expression-spec : {M : Type 1} → statement M
-read-expression-spec = tie.close (tie.spec read-leading-requires enum-known-end enum-told returns returns-2 returns-3)
+read-expression-spec =
+    tie.close
+    (tie.spec (λ c κs. search needs) (λ c. search needs) (λ c. search needs) returns returns-2 returns-3)

@@ -8,21 +8,9 @@ use Rattle.text.specs.Parsing.{JoinRead}
 use Rattle.text.proofs.expressions.read_join.Statement.{statement}
 use Rattle.text.proofs.expressions.read_join.Tie as tie
 
-slice-aggregate-begins : tie.Need-slice-aggregate-begins
-slice-aggregate-begins c = search needs
-
-begins-requires : tie.Need-begins-requires
-begins-requires c κs = search needs
-
 returns : tie.Need-returns
 unfolding JoinRead leadingJoin minMaxWord codeOf
 returns c = (smaller, rw (sym (c .before .begins .ensures) ∙ c .if1 .taken), refl)
-
-slice-aggregate-begins-2 : tie.Need-slice-aggregate-begins-2
-slice-aggregate-begins-2 c = search needs
-
-begins-requires-2 : tie.Need-begins-requires-2
-begins-requires-2 c κs = search needs
 
 returns-2 : tie.Need-returns-2
 unfolding JoinRead leadingJoin minMaxWord codeOf
@@ -36,7 +24,9 @@ returns-3 c =
     let a = c .before .before .before in
     rw (sym (a .before .begins .ensures) ∙ a .if1 .left, sym (c .before .begins2 .ensures) ∙ c .if2 .left)
 
+-- the other needs are found by search
 pub read-join-spec : {M : Type 1} → statement M
 read-join-spec =
     tie.close
-    (tie.spec slice-aggregate-begins begins-requires returns slice-aggregate-begins-2 begins-requires-2 returns-2 returns-3)
+    (tie.spec
+    (λ c. search needs) (λ c κs. search needs) returns (λ c. search needs) (λ c κs. search needs) returns-2 returns-3)

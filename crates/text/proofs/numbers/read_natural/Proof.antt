@@ -43,20 +43,11 @@ returns c = sym (empty-no-natural _ (c .if1 .taken))
 returns-2 : tie.Need-returns-2 Inv-loop μ-loop
 returns-2 c = sym (long-no-natural _ (c .if2 .taken))
 
-no-leading-zero-requires : tie.Need-no-leading-zero-requires Inv-loop μ-loop
-no-leading-zero-requires c κs = search needs
-
 returns-3 : tie.Need-returns-3 Inv-loop μ-loop
 returns-3 c = sym (lead-no-natural _ (omega arith) (c .before .before .if2 .left) (sym (c .before .no-leading-zero .ensures) ∙ not-true _ (c .if3 .taken)))
 
-loop-holds : tie.Need-loop-holds Inv-loop μ-loop
-loop-holds c = search needs
-
 shared-slice-read-byte : tie.Need-shared-slice-read-byte Inv-loop μ-loop
 shared-slice-read-byte c = omega arith
-
-is-digit-requires : tie.Need-is-digit-requires Inv-loop μ-loop
-is-digit-requires c κs = search needs
 
 returns-4 : tie.Need-returns-4 Inv-loop μ-loop
 returns-4 c = sym (so-far (c .before .before .before .before) ∙ no-digit _ _ _ (c .before .before .before .loop-test .taken) (sym (c .before .is-digit .ensures) ∙ not-true _ (c .if4 .taken)))
@@ -66,9 +57,6 @@ mul-value c = omega (arith, small (c .before .before .before .before) (c .before
 
 sub-wide : tie.Need-sub-wide Inv-loop μ-loop
 sub-wide c = omega (arith, digit-low _ (digit c))
-
-wide-requires : tie.Need-wide-requires Inv-loop μ-loop
-wide-requires c κs = search needs
 
 add-value : tie.Need-add-value Inv-loop μ-loop
 add-value c =
@@ -92,25 +80,11 @@ loop-again c =
 returns-5 : tie.Need-returns-5 Inv-loop μ-loop
 returns-5 c = sym (so-far (c .before) ∙ digits-done _ _ _ (c .loop-test .left))
 
+-- the other needs are found by search
 pub read-natural-spec : {M : Type 1} → statement M
 read-natural-spec =
     tie.close
     (tie.spec
-    Inv-loop
-    μ-loop
-    returns
-    returns-2
-    no-leading-zero-requires
-    returns-3
-    loop-holds
-    shared-slice-read-byte
-    is-digit-requires
-    returns-4
-    mul-value
-    sub-wide
-    wide-requires
-    add-value
-    add-i
-    loop-less
-    loop-again
+    Inv-loop μ-loop returns returns-2 (λ c κs. search needs) returns-3 (λ c. search needs) shared-slice-read-byte
+    (λ c κs. search needs) returns-4 mul-value sub-wide (λ c κs. search needs) add-value add-i loop-less loop-again
     returns-5)
