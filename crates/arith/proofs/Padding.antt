@@ -7,9 +7,9 @@ use lib.ListN.{length, getD, set, replicate, length-append, length-set}
 use Rattle.arith.specs.Padding.{padded}
 
 module _ {A : Type 0} where
-  set-behind : (xs ys : List A) (y z : A) → set (xs ++ (y ∷ ys)) (length xs) z ≡ xs ++ (z ∷ ys)
-  set-behind [] ys y z = refl
-  set-behind (x ∷ xs) ys y z = ap {B = List A} (λ l. x ∷ l) (set-behind xs ys y z)
+  set-after : (xs ys : List A) (y z : A) → set (xs ++ (y ∷ ys)) (length xs) z ≡ xs ++ (z ∷ ys)
+  set-after [] ys y z = refl
+  set-after (x ∷ xs) ys y z = ap {B = List A} (λ l. x ∷ l) (set-after xs ys y z)
 
   set-before : (xs ys : List A) (i : ℕ) (z : A) → i < length xs → set (xs ++ ys) i z ≡ set xs i z ++ ys
   set-before [] ys i z h = absurd (omega arith)
@@ -27,7 +27,7 @@ module _ {A : Type 0} where
   padded-more n z xs x h =
       let free : n - length xs ≡ suc (n - (length xs + 1)) = omega arith in
       let count : length (xs ++ (x ∷ [])) ≡ length xs + 1 = length-append xs (x ∷ []) in
-      rw (free, count, append-assoc xs (x ∷ []) (replicate (n - (length xs + 1)) z)) (set-behind xs (replicate (n - (length xs + 1)) z) z x)
+      rw (free, count, append-assoc xs (x ∷ []) (replicate (n - (length xs + 1)) z)) (set-after xs (replicate (n - (length xs + 1)) z) z x)
 
   -- a filled cell changed, and read
   pub padded-set : (n : ℕ) (z : A) (xs : List A) (i : ℕ) (x : A) → i < length xs → set (padded n z xs) i x ≡ padded n z (set xs i x)

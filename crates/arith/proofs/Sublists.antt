@@ -25,9 +25,9 @@ module _ {A : Type 0} where
   front-inside [] Y = Sublistᴰ·nil-sublist Y
   front-inside (x ∷ X) Y = Sublistᴰ·cons-cons refl (front-inside X Y)
 
-  pub behind-inside : (X Y : List A) → Sublistᴰ Y (X ++ Y)
-  behind-inside [] Y = Sublistᴰ·refl Y
-  behind-inside (x ∷ X) Y = Sublistᴰ·cons (behind-inside X Y)
+  pub end-inside : (X Y : List A) → Sublistᴰ Y (X ++ Y)
+  end-inside [] Y = Sublistᴰ·refl Y
+  end-inside (x ∷ X) Y = Sublistᴰ·cons (end-inside X Y)
 
   pub keep-inside : (test : A → Bool) (xs : List A) → Sublistᴰ (keep test xs) xs
   keep-inside test [] = Sublistᴰ·slnil
@@ -59,19 +59,19 @@ module _ {A : Type 0} where
   pub record LeftOut (Y X : List A) : Type 0 where
     pub front : List A
     pub member : A
-    pub behind : List A
-    pub whole : X ≡ front ++ (member ∷ behind)
-    pub others : Sublistᴰ Y (front ++ behind)
+    pub rest : List A
+    pub whole : X ≡ front ++ (member ∷ rest)
+    pub others : Sublistᴰ Y (front ++ rest)
 
   pub left-out : {Y X : List A} → Sublistᴰ Y X → length Y < length X → LeftOut Y X
   left-out Sublistᴰ·slnil h = absurd (omega arith)
-  left-out (Sublistᴰ·cons {a = a} {l₂ = X} s) h = record { front = []; member = a; behind = X; whole = refl; others = s }
+  left-out (Sublistᴰ·cons {a = a} {l₂ = X} s) h = record { front = []; member = a; rest = X; whole = refl; others = s }
   left-out (Sublistᴰ·cons-cons {b = b} e s) h =
       let l = left-out s (omega arith) in
       record {
         front = b ∷ l .front;
         member = l .member;
-        behind = l .behind;
+        rest = l .rest;
         whole = ap {B = List A} (λ xs. b ∷ xs) (l .whole);
         others = Sublistᴰ·cons-cons e (l .others);
       }

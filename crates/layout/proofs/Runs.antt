@@ -15,37 +15,37 @@ use Rattle.layout.proofs.KeptLaws.{sound-step}
 use Rattle.layout.proofs.Places.{from-cons, from-nil}
 
 -- the records after the lines that some records begin with
-unfoldable pub behindLines : List Record → List Record
-behindLines [] = []
-behindLines (r ∷ rest) = cond (isLine (kindOf (r .kind))) (behindLines rest) (r ∷ rest)
+unfoldable pub pastLines : List Record → List Record
+pastLines [] = []
+pastLines (r ∷ rest) = cond (isLine (kindOf (r .kind))) (pastLines rest) (r ∷ rest)
 
 -- they are what is left when the lines are dropped
-pub behind-drop : (rs : List Record) → drop (length (leadingLines rs)) rs ≡ behindLines rs
-unfolding leadingLines behindLines
-behind-drop [] = refl
-behind-drop (r ∷ rest) = go (isLine (kindOf (r .kind))) (behind-drop rest)
+pub after-drop : (rs : List Record) → drop (length (leadingLines rs)) rs ≡ pastLines rs
+unfolding leadingLines pastLines
+after-drop [] = refl
+after-drop (r ∷ rest) = go (isLine (kindOf (r .kind))) (after-drop rest)
   where
-    go : (b : Bool) → drop (length (leadingLines rest)) rest ≡ behindLines rest → drop (length (cond b (r .mask ∷ leadingLines rest) [])) (r ∷ rest) ≡ cond b (behindLines rest) (r ∷ rest)
+    go : (b : Bool) → drop (length (leadingLines rest)) rest ≡ pastLines rest → drop (length (cond b (r .mask ∷ leadingLines rest) [])) (r ∷ rest) ≡ cond b (pastLines rest) (r ∷ rest)
     go true ih = ih
     go false ih = refl
 
 -- no line begins them
-pub behind-no-line : (rs : List Record) → leadingLines (behindLines rs) ≡ []
-unfolding leadingLines behindLines
-behind-no-line [] = refl
-behind-no-line (r ∷ rest) = go (isLine (kindOf (r .kind))) refl (behind-no-line rest)
+pub after-no-line : (rs : List Record) → leadingLines (pastLines rs) ≡ []
+unfolding leadingLines pastLines
+after-no-line [] = refl
+after-no-line (r ∷ rest) = go (isLine (kindOf (r .kind))) refl (after-no-line rest)
   where
-    go : (b : Bool) → isLine (kindOf (r .kind)) ≡ b → leadingLines (behindLines rest) ≡ [] → leadingLines (cond b (behindLines rest) (r ∷ rest)) ≡ []
+    go : (b : Bool) → isLine (kindOf (r .kind)) ≡ b → leadingLines (pastLines rest) ≡ [] → leadingLines (cond b (pastLines rest) (r ∷ rest)) ≡ []
     go true e ih = ih
     go false e ih = rw e refl
 
 -- lines are no nodes
-pub behind-nodes : (rs : List Record) → nodes (behindLines rs) ≡ nodes rs
-unfolding nodes nodeThen behindLines isLine
-behind-nodes [] = refl
-behind-nodes (r ∷ rest) = go (kindOf (r .kind)) refl (behind-nodes rest)
+pub after-nodes : (rs : List Record) → nodes (pastLines rs) ≡ nodes rs
+unfolding nodes nodeThen pastLines isLine
+after-nodes [] = refl
+after-nodes (r ∷ rest) = go (kindOf (r .kind)) refl (after-nodes rest)
   where
-    go : (k : Kind) → kindOf (r .kind) ≡ k → nodes (behindLines rest) ≡ nodes rest → nodes (cond (isLine k) (behindLines rest) (r ∷ rest)) ≡ nodeThen k (r .mask) (leadingLines rest) (nodes rest)
+    go : (k : Kind) → kindOf (r .kind) ≡ k → nodes (pastLines rest) ≡ nodes rest → nodes (cond (isLine k) (pastLines rest) (r ∷ rest)) ≡ nodeThen k (r .mask) (leadingLines rest) (nodes rest)
     go line e ih = ih
     go (policy q t) e ih = rw e refl
     go (Kind.join j) e ih = rw e refl
@@ -53,26 +53,26 @@ behind-nodes (r ∷ rest) = go (kindOf (r .kind)) refl (behind-nodes rest)
     go unknown e ih = rw e refl
 
 -- the next node is the first of them
-pub behind-next : (n : ℕ) (rs : List Record) → nextNode n (kinds rs) ≡ ifAny (behindLines rs) (n + length (leadingLines rs))
-unfolding nextNode kinds leadingLines behindLines ifAny
-behind-next n [] = refl
-behind-next n (r ∷ rest) = go (isLine (kindOf (r .kind))) (behind-next (n + 1) rest)
+pub after-next : (n : ℕ) (rs : List Record) → nextNode n (kinds rs) ≡ ifAny (pastLines rs) (n + length (leadingLines rs))
+unfolding nextNode kinds leadingLines pastLines ifAny
+after-next n [] = refl
+after-next n (r ∷ rest) = go (isLine (kindOf (r .kind))) (after-next (n + 1) rest)
   where
-    go : (b : Bool) → nextNode (n + 1) (kinds rest) ≡ ifAny (behindLines rest) (n + 1 + length (leadingLines rest))
-        → cond b (nextNode (n + 1) (kinds rest)) n ≡ ifAny (cond b (behindLines rest) (r ∷ rest)) (n + length (cond b (r .mask ∷ leadingLines rest) []))
-    go true ih = ih ∙ ap (λ (m : ℕ). ifAny (behindLines rest) m) (omega arith)
+    go : (b : Bool) → nextNode (n + 1) (kinds rest) ≡ ifAny (pastLines rest) (n + 1 + length (leadingLines rest))
+        → cond b (nextNode (n + 1) (kinds rest)) n ≡ ifAny (cond b (pastLines rest) (r ∷ rest)) (n + length (cond b (r .mask ∷ leadingLines rest) []))
+    go true ih = ih ∙ ap (λ (m : ℕ). ifAny (pastLines rest) m) (omega arith)
     go false ih = sym (add-zero n)
 
 -- lines change nothing of what stands above
-pub behind-judged : (n : ℕ) (so : SoFar) (rs : List Record) → judged n so rs ≡ result tt → judged (n + length (leadingLines rs)) so (behindLines rs) ≡ result tt
-unfolding leadingLines behindLines soFarAfter isLine
-behind-judged n so [] h = rw add-zero h
-behind-judged n so (r ∷ rest) h = go (kindOf (r .kind)) (sound-step n so r rest h .1) (λ s. behind-judged (n + 1) so rest s)
+pub after-judged : (n : ℕ) (so : SoFar) (rs : List Record) → judged n so rs ≡ result tt → judged (n + length (leadingLines rs)) so (pastLines rs) ≡ result tt
+unfolding leadingLines pastLines soFarAfter isLine
+after-judged n so [] h = rw add-zero h
+after-judged n so (r ∷ rest) h = go (kindOf (r .kind)) (sound-step n so r rest h .1) (λ s. after-judged (n + 1) so rest s)
   where
     go : (k : Kind) → judged (n + 1) (soFarAfter so k r) rest ≡ result tt
-        → (judged (n + 1) so rest ≡ result tt → judged (n + 1 + length (leadingLines rest)) so (behindLines rest) ≡ result tt)
-        → judged (n + length (cond (isLine k) (r .mask ∷ leadingLines rest) [])) so (cond (isLine k) (behindLines rest) (r ∷ rest)) ≡ result tt
-    go line s ih = subst (λ (m : ℕ). judged m so (behindLines rest) ≡ result tt) (omega arith) (ih s)
+        → (judged (n + 1) so rest ≡ result tt → judged (n + 1 + length (leadingLines rest)) so (pastLines rest) ≡ result tt)
+        → judged (n + length (cond (isLine k) (r .mask ∷ leadingLines rest) [])) so (cond (isLine k) (pastLines rest) (r ∷ rest)) ≡ result tt
+    go line s ih = subst (λ (m : ℕ). judged m so (pastLines rest) ≡ result tt) (omega arith) (ih s)
     go (policy q t) s ih = rw add-zero h
     go (Kind.join j) s ih = rw add-zero h
     go exclusion s ih = rw add-zero h
@@ -89,9 +89,9 @@ drop-drop zero m l = rw zero-add refl
 drop-drop (suc n) m [] = rw suc-add (drop-nil m)
 drop-drop (suc n) m (x ∷ l) = rw suc-add (drop-drop n m l)
 
-pub from-behind : (ws : List ℕ) (i : ℕ) → recordsFrom ws (i + length (leadingLines (recordsFrom ws i))) ≡ behindLines (recordsFrom ws i)
+pub from-after : (ws : List ℕ) (i : ℕ) → recordsFrom ws (i + length (leadingLines (recordsFrom ws i))) ≡ pastLines (recordsFrom ws i)
 unfolding recordsFrom
-from-behind ws i = sym (drop-drop i (length (leadingLines (drop i (records ws)))) (records ws)) ∙ behind-drop (drop i (records ws))
+from-after ws i = sym (drop-drop i (length (leadingLines (drop i (records ws)))) (records ws)) ∙ after-drop (drop i (records ws))
 
 length-records : (ws : List ℕ) → length (records ws) ≡ length ws / 4
 unfolding records

@@ -4,7 +4,7 @@ use mathlib.Core.List.{List, [], _∷_, _++_, append-assoc, List·Permᴰ, List�
 use mathlib.Core.Path.{_≡_, refl, sym, ap, _∙_}
 use native.Mathlib.Omega.{arith}
 use lib.IntN.{ℤ}
-use Rattle.arith.proofs.Sublists.{inside-length, front-inside, behind-inside, each-inside}
+use Rattle.arith.proofs.Sublists.{inside-length, front-inside, end-inside, each-inside}
 use Rattle.arith.proofs.InOrder.{order-inside}
 use Rattle.arith.proofs.Reordering.{each-reordered, length-reordered}
 use Rattle.peal.specs.Policies.{Rule}
@@ -49,7 +49,7 @@ has-persists op t rules fit = record { added = added; exchanged = exchanged }
 
     -- a stands before b
     before : (X Y : List Rule) (a b : Rule) → SetInside (a ∷ b ∷ []) (X ++ (a ∷ (Y ++ (b ∷ []))))
-    before X Y a b = Sublistᴰ·trans (Sublistᴰ·cons-cons refl (behind-inside Y (b ∷ []))) (behind-inside X (a ∷ (Y ++ (b ∷ []))))
+    before X Y a b = Sublistᴰ·trans (Sublistᴰ·cons-cons refl (end-inside Y (b ∷ []))) (end-inside X (a ∷ (Y ++ (b ∷ []))))
 
     exchanged : (X Y : List Rule) (a b : Rule) → SetInside (X ++ (a ∷ (Y ++ (b ∷ [])))) (ranked op rules)
         → has op t (X ++ (Y ++ (b ∷ []))) ≡ true → has op t (X ++ (a ∷ Y)) ≡ true

@@ -11,7 +11,7 @@ use Rattle.arith.proofs.Tests.{clash, same-answer, not-yes}
 use Rattle.arith.proofs.Keep.{keep-append}
 use Rattle.arith.proofs.Members.{keep-none}
 use Rattle.arith.proofs.NonEmpty.{some-long, long-some, some-around}
-use Rattle.arith.proofs.Sublists.{front-inside, behind-inside, left-out, inside-last}
+use Rattle.arith.proofs.Sublists.{front-inside, end-inside, left-out, inside-last}
 use Rattle.arith.proofs.Subsets.{subsets-more, subsets-last}
 use Rattle.peal.specs.Policies.{Rule}
 use Rattle.peal.specs.Lines.{setsInside, minimal, minimalSets}
@@ -46,10 +46,10 @@ module _ (property : List Rule → Bool) where
       keep-none (minimal property) (map (λ Y. X ++ Y) (setsInside L)) (λ Z m.
       let (Y, k, e) = Memᴰ·of-map (λ (Y : List Rule). X ++ Y) (setsInside L) m in
       let (s, some) = inside-out L k in
-      rw (← e) (not-yes (minimal property (X ++ Y)) (λ least. h Y s (minimal-out property (X ++ Y) (some-around (behind-inside X Y) some) least) some)))
+      rw (← e) (not-yes (minimal property (X ++ Y)) (λ least. h Y s (minimal-out property (X ++ Y) (some-around (end-inside X Y) some) least) some)))
 
   module _ (rules : List Rule) (persists : Persists property rules) where
-    -- rules may be added behind P
+    -- rules may be added after P
     pub grown : (P : List Rule) {Y X : List Rule} → SetInside Y X → SetInside (P ++ X) rules → property (P ++ Y) ≡ true → property (P ++ X) ≡ true
     grown P Sublistᴰ·slnil i h = h
     grown P (Sublistᴰ·cons {a = a} {l₂ = X} s) i h =
@@ -57,12 +57,12 @@ module _ (property : List Rule → Bool) where
     grown P (Sublistᴰ·cons-cons {b = b} {l₁ = Y} {l₂ = X} e s) i h =
         rw (append-assoc P (b ∷ []) X) at (grown (P ++ (b ∷ [])) s (rw (append-assoc P (b ∷ []) X) i) (rw (append-assoc P (b ∷ []) Y, ← e) h))
 
-    -- where a smaller set inside X has the property with r behind it, so has X: r is exchanged for a rule that was left out
+    -- where a smaller set inside X has the property with r after it, so has X: r is exchanged for a rule that was left out
     smaller-then : (X Y : List Rule) (r : Rule) → SetInside Y X → length Y < length X → SetInside (X ++ (r ∷ [])) rules
         → property (Y ++ (r ∷ [])) ≡ true → property X ≡ true
     smaller-then X Y r s l i h =
         let o = left-out s l in
-        rw (o .whole) (go (o .front) (o .behind) (o .member) (o .others) (rw (o .whole, append-assoc (o .front) (o .member ∷ o .behind) (r ∷ [])) at i))
+        rw (o .whole) (go (o .front) (o .rest) (o .member) (o .others) (rw (o .whole, append-assoc (o .front) (o .member ∷ o .rest) (r ∷ [])) at i))
       where
         go : (A B : List Rule) (a : Rule) → SetInside Y (A ++ B) → SetInside (A ++ (a ∷ (B ++ (r ∷ [])))) rules → property (A ++ (a ∷ B)) ≡ true
         go A B a t j =
@@ -79,7 +79,7 @@ module _ (property : List Rule → Bool) where
         (λ h. minimal-in property (X ++ (r ∷ [])) (record { some = some; holds = h; noSmaller = smaller }))
       where
         some : nonEmpty (X ++ (r ∷ [])) ≡ true
-        some = some-around (behind-inside X (r ∷ [])) refl
+        some = some-around (end-inside X (r ∷ [])) refl
 
         smaller : (Y : List Rule) → SetInside Y (X ++ (r ∷ [])) → nonEmpty Y ≡ true → length Y < length (X ++ (r ∷ [])) → property Y ≡ false
         smaller Y s k l =
@@ -111,7 +111,7 @@ module _ (property : List Rule → Bool) where
         -- Y is smaller than every set with more rules
         not-with-more : property Y ≡ true → (Z : List Rule) → IsMinimal property (Y ++ Z) → nonEmpty Z ≡ true → ⊥
         not-with-more h Z least k =
-            clash h (least .noSmaller Y (front-inside Y Z) (some-around (behind-inside X (r ∷ [])) refl) (omega (arith, length-append Y Z, some-long Z k)))
+            clash h (least .noSmaller Y (front-inside Y Z) (some-around (end-inside X (r ∷ [])) refl) (omega (arith, length-append Y Z, some-long Z k)))
 
         go : (a : Bool) → property (X ++ (r ∷ L)) ≡ a → (b : Bool) → property Y ≡ b
             → (property Y ≡ false → foundFrom property Y L ≡ minimalFrom Y L)

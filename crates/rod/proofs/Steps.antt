@@ -18,7 +18,7 @@ use Rattle.layout.specs.Steps.{recordAt, recordsFrom}
 use Rattle.layout.proofs.KeptLaws.{kept-policy, kept-join, kept-exclusion, some-after, sound-step, no-owner, sound-judged}
 use Rattle.layout.proofs.SoundNodes.{lines-fit, sound-well-formed}
 use Rattle.layout.proofs.Places.{from-cons, from-nil}
-use Rattle.layout.proofs.Runs.{behindLines, behind-drop, behind-no-line, behind-nodes, behind-next, behind-judged, from-behind, run-in-words, nodes-here}
+use Rattle.layout.proofs.Runs.{pastLines, after-drop, after-no-line, after-nodes, after-next, after-judged, from-after, run-in-words, nodes-here}
 use Rattle.rod.specs.Reading.{policyValue, joined, says, rodAnswer}
 use Rattle.rod.specs.Values.{bitsOf, ValueAdded, LastJoined, AllSets, LinesTo, policyAt, nodeEnd, NodeAt, Underway}
 use Rattle.rod.proofs.ValueLaws.{bits-below, one-value}
@@ -32,8 +32,8 @@ unfolding kinds ifAny
 any-kinds [] n = refl
 any-kinds (r ∷ rs) n = refl
 
-no-lines-behind : (rs : List Record) → leadingLines rs ≡ [] → behindLines rs ≡ rs
-no-lines-behind rs e = sym (behind-drop rs) ∙ ap (λ (ls : List ℕ). drop (length ls) rs) e
+no-lines-after : (rs : List Record) → leadingLines rs ≡ [] → pastLines rs ≡ rs
+no-lines-after rs e = sym (after-drop rs) ∙ ap (λ (ls : List ℕ). drop (length ls) rs) e
 
 -- ---- the node at an index
 
@@ -66,13 +66,13 @@ module _ (ws : List ℕ) (at : ℕ) (lt : at < length ws / 4) (node : NodeAt ws 
   node-after k e =
       record {
         above = soFarAfter (node .above) k (recordAt ws at);
-        sound = rw (from-behind ws (at + 1)) (behind-judged (at + 1) (soFarAfter (node .above) k (recordAt ws at)) rest (step k e .1));
-        noLine = rw (from-behind ws (at + 1)) (behind-no-line rest);
+        sound = rw (from-after ws (at + 1)) (after-judged (at + 1) (soFarAfter (node .above) k (recordAt ws at)) rest (step k e .1));
+        noLine = rw (from-after ws (at + 1)) (after-no-line rest);
       }
 
   nodes-after : nodes (recordsFrom ws (nodeEnd ws at)) ≡ nodes rest
   unfolding nodeEnd
-  nodes-after = ap nodes (from-behind ws (at + 1)) ∙ behind-nodes rest
+  nodes-after = ap nodes (from-after ws (at + 1)) ∙ after-nodes rest
 
   -- it is taken first, and then the nodes after it
   pub taken-here : (set : ℕ) (stack : List Bool) (k : Kind) → k ≡ kindOf (getD ws (at * 4) 0)
@@ -91,26 +91,26 @@ module _ (ws : List ℕ) (at : ℕ) (lt : at < length ws / 4) (node : NodeAt ws 
   -- its `next` names the node after it, or is 0
   next-word : getD ws (at * 4 + 3) 0 ≡ ifAny (recordsFrom ws (nodeEnd ws at)) (nodeEnd ws at + 1)
   unfolding nodeEnd soFarAfter
-  next-word = rw (from-behind ws (at + 1)) (go (kindOf (getD ws (at * 4) 0)) refl)
+  next-word = rw (from-after ws (at + 1)) (go (kindOf (getD ws (at * 4) 0)) refl)
     where
-      go : (k : Kind) → k ≡ kindOf (getD ws (at * 4) 0) → getD ws (at * 4 + 3) 0 ≡ ifAny (behindLines rest) (at + 1 + length (leadingLines rest) + 1)
+      go : (k : Kind) → k ≡ kindOf (getD ws (at * 4) 0) → getD ws (at * 4 + 3) 0 ≡ ifAny (pastLines rest) (at + 1 + length (leadingLines rest) + 1)
       go line e = absurd (not-line e)
       go unknown e = absurd (not-unknown e)
       go (policy q t) e =
           kept-policy (at + 1) (node .above) (recordAt ws at) (kinds rest) q t (step (policy q t) e .0) .2
-          ∙ behind-next (at + 1 + 1) rest ∙ ap (λ (n : ℕ). ifAny (behindLines rest) n) (omega arith)
+          ∙ after-next (at + 1 + 1) rest ∙ ap (λ (n : ℕ). ifAny (pastLines rest) n) (omega arith)
       go (Kind.join j) e =
           let none : leadingLines rest ≡ [] = no-owner (at + 1) _ rest refl (step (Kind.join j) e .1) in
           kept-join (at + 1) (node .above) (recordAt ws at) (kinds rest) j (step (Kind.join j) e .0) .2
           ∙ any-kinds rest (at + 1 + 1)
-          ∙ ap₂ (λ (rs : List Record) (n : ℕ). ifAny rs n) (sym (no-lines-behind rest none)) (omega (arith, ap length none))
+          ∙ ap₂ (λ (rs : List Record) (n : ℕ). ifAny rs n) (sym (no-lines-after rest none)) (omega (arith, ap length none))
       go exclusion e =
           let none : leadingLines rest ≡ [] = no-owner (at + 1) _ rest refl (step exclusion e .1) in
           let kept = kept-exclusion (at + 1) (node .above) (recordAt ws at) (kinds rest) (step exclusion e .0) in
           kept .4
           ∙ sym (some-after (kinds rest) (at + 1 + 1) (kept .5))
           ∙ any-kinds rest (at + 1 + 1)
-          ∙ ap₂ (λ (rs : List Record) (n : ℕ). ifAny rs n) (sym (no-lines-behind rest none)) (omega (arith, ap length none))
+          ∙ ap₂ (λ (rs : List Record) (n : ℕ). ifAny rs n) (sym (no-lines-after rest none)) (omega (arith, ap length none))
 
   end-within : nodeEnd ws at ≤ length ws / 4
   unfolding nodeEnd

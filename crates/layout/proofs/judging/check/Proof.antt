@@ -1,4 +1,4 @@
--- `layout::judging::check`: the judged from here on is the verdict.
+-- `layout::judging::check`: the judgement from here on is the verdict.
 use borrow.Author.Needs.{needs}
 use native.Mathlib.Omega.{arith}
 use Prim.Native.Nat.{_-_, _/_, _≤_}

@@ -1,4 +1,4 @@
--- `layout::judging::next_node`: what is sought from the noRecord is what is sought from here on.
+-- `layout::judging::next_node`: what is sought from the start is what is sought from here on.
 use borrow.Author.Needs.{needs}
 use native.Mathlib.Omega.{arith}
 use Prim.Native.Nat.{_+_, _-_, _/_}

@@ -1,4 +1,4 @@
--- `layout::judging::step_at`: the parts together are a step of the judged.
+-- `layout::judging::step_at`: the parts together are a step of the judgement.
 use mathlib.Core.Path.{refl, ap, _∙_}
 use Rattle.layout.specs.Records.{and, or}
 use Rattle.layout.specs.Steps.{kindMeaning}
