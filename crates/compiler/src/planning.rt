@@ -48,12 +48,10 @@ fn clamped(threshold: i32) -> i64
 fn first_limit(operator: peal::Operator, threshold: i32) -> i64
     ensures { λ r. ⌜ r ≡ limitOf operator threshold 0 ⌝ }
 {
-    match operator {
-        peal::Operator::Mul => clamped(threshold),
-        peal::Operator::Min => threshold as i64,
-        peal::Operator::Max => threshold as i64,
-        peal::Operator::Sum => threshold as i64,
+    if let peal::Operator::Mul = operator {
+        return clamped(threshold);
     }
+    threshold as i64
 }
 
 // The limit of a set of one rule more.
@@ -61,12 +59,10 @@ fn next_limit(operator: peal::Operator, limit: i64) -> i64
     requires { ⌜ mag limit ≤ 10 ^ 16 ⌝ }
     ensures { λ r. ⌜ NextLimit operator limit r ⌝ }
 {
-    match operator {
-        peal::Operator::Mul => limit * UNIT,
-        peal::Operator::Min => limit,
-        peal::Operator::Max => limit,
-        peal::Operator::Sum => limit,
+    if let peal::Operator::Mul = operator {
+        return limit * UNIT;
     }
+    limit
 }
 
 // The operator over no score.
