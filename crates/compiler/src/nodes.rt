@@ -2,7 +2,10 @@
 // For this crate only: no other can name these functions, and each call is proved to meet its condition.
 use crate::searching::count_lines;
 use crate::searching::put_lines;
+use layout::AND;
+use layout::OR;
 use text::CODE_COUNT;
+use text::MAX_CODE;
 use text::POLICY_CODE;
 ghost use mathlib.Core.Bool.{cond};
 ghost use mathlib.Core.Path.{_≡_};
@@ -21,12 +24,11 @@ pub type LineCounts = [usize; CODE_COUNT];
 
 // The kind of a join, from its code: "and" for min under `<`, "or" for max; under `>=` the reverse.
 fn join_kind(sense: peal::Sense, code: u32) -> u32
-    requires { ⌜ code < 2 ⌝ }
     ensures { λ r. ⌜ ForJoin code (λ m. r ≡ joinKind (joinOf sense m)) ⌝ }
 {
     match sense {
-        peal::Sense::Above => layout::AND + code,
-        peal::Sense::AtMost => layout::OR - code,
+        peal::Sense::Above => { if code == MAX_CODE { OR } else { AND } }
+        peal::Sense::AtMost => { if code == MAX_CODE { AND } else { OR } }
     }
 }
 
@@ -44,19 +46,10 @@ fn is_met(sense: peal::Sense, threshold: i32, default: i32) -> bool
 fn is_turned(sense: peal::Sense, operator: peal::Operator) -> bool
     ensures { λ r. ⌜ r ≡ turned sense operator ⌝ }
 {
+    let rising = peal::rises(operator);
     match sense {
-        peal::Sense::AtMost => match operator {
-            peal::Operator::Sum => true,
-            peal::Operator::Max => true,
-            peal::Operator::Mul => false,
-            peal::Operator::Min => false,
-        },
-        peal::Sense::Above => match operator {
-            peal::Operator::Sum => false,
-            peal::Operator::Max => false,
-            peal::Operator::Mul => true,
-            peal::Operator::Min => true,
-        },
+        peal::Sense::AtMost => rising,
+        peal::Sense::Above => !rising,
     }
 }
 
@@ -134,7 +127,7 @@ pub fn count_records(cells: &book::Cells, n: usize, lines: &mut LineCounts) -> u
 
 // A join as record `at`; `more` tells whether a node follows.
 fn put_join(sense: peal::Sense, code: u32, words: &mut [u32], at: usize, more: bool)
-    requires { ⌜ (code < 2) × RoomFor at 1 (now words) ⌝ }
+    requires { ⌜ RoomFor at 1 (now words) ⌝ }
     ensures { λ r. ⌜ ForJoin code
         (λ m. NodePut at more (joining (joinOf sense m)) (now (words .entry)) (now (words .exit))) ⌝ }
 {

@@ -4,6 +4,7 @@ ghost use mathlib.Core.Path.{_≡_};
 ghost use Prim.Native.Nat.{_^_, _≤_};
 ghost use lib.Signed.{mag};
 ghost use Rattle.peal.specs.Combining.{combinedOf};
+ghost use Rattle.peal.specs.Ranking.{rises as risesOf};
 
 // How a policy combines the scores of its rules: `sum` is Peal's +, `mul` its *.
 pub enum Operator {
@@ -17,6 +18,18 @@ pub enum Operator {
 pub enum Sense {
     Above,
     AtMost,
+}
+
+// Ranks go by rising score in sum and max, by falling score in mul and min.
+pub fn rises(o: Operator) -> bool
+    ensures { λ r. ⌜ r ≡ risesOf o ⌝ }
+{
+    match o {
+        Operator::Sum => true,
+        Operator::Max => true,
+        Operator::Mul => false,
+        Operator::Min => false,
+    }
 }
 
 // The operator over two scores; in mul the bare product. For the crates above only, which have scores in range: the result fits.

@@ -53,7 +53,7 @@ put-join-requires : tie.Need-put-join-requires
 put-join-requires c κs =
     let e = c .before in
     let r = start (e .before) .pre .1 in
-    (e .if1 .taken, room-part r _ 1 (r .begins) (omega arith) refl)
+    room-part r _ 1 (r .begins) (omega arith) refl
 
 threshold-at-requires : tie.Need-threshold-at-requires
 threshold-at-requires c κs = start (c .before) .pre .0 .kept .0
