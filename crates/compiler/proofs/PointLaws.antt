@@ -56,17 +56,17 @@ module _ {op : Operator} {plan : List ℤ} {count : ℕ} {value : ℤ} {left : �
   -- the value as it is read back
   pub read-back : SFits w64 value → Searching op plan count (toZ w64 (ofZ w64 value)) left p
   read-back fits =
-      record { planned = h .planned; counted = h .counted; valued = toZ-ofZ w64 value fits ∙ h .valued; inside = h .inside; range = h .range }
+      record { operator = h .operator; planned = h .planned; counted = h .counted; valued = toZ-ofZ w64 value fits ∙ h .valued; inside = h .inside; range = h .range }
 
   -- the same, with no rule still to come
   pub none-coming : Searching op plan count value 0 p
-  none-coming = record { planned = h .planned; counted = h .counted; valued = h .valued; inside = omega (arith, h .inside); range = h .range }
+  none-coming = record { operator = h .operator; planned = h .planned; counted = h .counted; valued = h .valued; inside = omega (arith, h .inside); range = h .range }
 
   -- a limit and a value tell whether rules Y have the property
   tells : (Y : List Rule) → RulesInRange o Y → (k : ℕ) → k ≡ length Y → k ≤ length rules → {l v : ℤ} → l ≡ limitIn plan k → v ≡ worth o Y
       → reachedOf op l v ≡ having p Y
   tells Y r k e i {l} {v} f g =
-      ap (λ (x : Operator). reachedOf x l v) (h .planned .operator)
+      ap (λ (x : Operator). reachedOf x l v) (h .operator)
       ∙ ap₂ (reachedOf o) (f ∙ h .planned .rows k i .limit ∙ ap (limitOf o (p .threshold)) e) g
       ∙ worth-has o (p .threshold) Y (range-fits o Y (r .scores) (r .room)) (h .planned .fits)
 
@@ -78,7 +78,7 @@ module _ {op : Operator} {plan : List ℤ} {count : ℕ} {value : ℤ} {left : �
   module _ {v w : ℤ} (g : v ≡ value) (e : w ≡ restIn plan left) where
     all-worth : combinedOf op v w ≡ worth o (allAt p left)
     all-worth =
-        ap (λ (x : Operator). combinedOf x v w) (h .planned .operator)
+        ap (λ (x : Operator). combinedOf x v w) (h .operator)
         ∙ ap₂ (combinedOf o) (g ∙ h .valued) (e ∙ h .planned .rows left (omega (arith, h .inside)) .rest)
         ∙ sym (worth-append o (p .taken) rest)
 
@@ -103,7 +103,7 @@ module _ {op : Operator} {plan : List ℤ} {count : ℕ} {value : ℤ} {left : �
 
   -- the rule is left out
   pub left-out : Searching op plan count value (left - 1) p
-  left-out = record { planned = h .planned; counted = h .counted; valued = h .valued; inside = omega (arith, h .inside); range = h .range }
+  left-out = record { operator = h .operator; planned = h .planned; counted = h .counted; valued = h .valued; inside = omega (arith, h .inside); range = h .range }
 
   -- what the plan has of it
   row : Row plan (p .policy) (p .threshold) left
@@ -135,7 +135,7 @@ module _ {op : Operator} {plan : List ℤ} {count : ℕ} {value : ℤ} {left : �
   -- the rules taken with it
   next-worth : combinedOf op value (scoreIn plan left) ≡ worth (p .policy .operator) (taking p left .taken)
   next-worth =
-      ap (λ (x : Operator). combinedOf x value (scoreIn plan left)) (h .planned .operator)
+      ap (λ (x : Operator). combinedOf x value (scoreIn plan left)) (h .operator)
       ∙ ap₂ (combinedOf (p .policy .operator)) (h .valued) (row .score some)
       ∙ worth-more (p .policy .operator) (p .taken) next next-score
 
@@ -145,6 +145,7 @@ module _ {op : Operator} {plan : List ℤ} {count : ℕ} {value : ℤ} {left : �
   pub taken-in : {z : ℤ} → z ≡ combinedOf op value (scoreIn plan left) → Searching op plan (count + 1) z (left - 1) (taking p left)
   taken-in e =
       record {
+        operator = h .operator;
         planned = h .planned;
         counted = omega (arith, h .counted, length-append (p .taken) (next ∷ []));
         valued = e ∙ next-worth;

@@ -13,8 +13,9 @@ use Rattle.peal.specs.Standins.{noRule}
 use Rattle.peal.specs.declared.Operator.{Operator}
 use Rattle.peal.specs.declared.Operator.the-variants.{Mul}
 use Rattle.limits.specs.Limits.{scoreInRange, thresholdInRange}
-use Rattle.book.specs.Cells.{mostRules, storedPolicy}
-use Rattle.book.specs.declared.cells.Policy.{Policy as StoredPolicy}
+use Rattle.book.specs.Cells.{mostRules}
+use Rattle.book.specs.Ranges.{PolicyKept}
+use Rattle.ranking.specs.RankOrder.{inRankOrder}
 use Rattle.compiler.specs.Worth.{worth, limitOf}
 
 -- T is in range
@@ -35,12 +36,6 @@ pub record RulesInRange (o : Operator) (rules : List Rule) : Type 0 where
   pub scores : Each (λ (r : Rule). scoreInRange o (r .score) ≡ true) rules
   pub few : length rules ≤ mostRules
   pub room : o ≡ Mul → length rules ≤ 8
-
--- the stored policy is that of one whose rules are in range
-pub record RulesKept (p : StoredPolicy) : Type 0 where
-  pub policy : Policy
-  pub held : p ≡ storedPolicy policy
-  pub range : RulesInRange (policy .operator) (policy .rules)
 
 -- ---- the plan: a row of four cells for each number k of rules
 
@@ -71,13 +66,12 @@ pub record Row (plan : List ℤ) (q : Policy) (t : ℤ) (k : ℕ) : Type 0 where
   pub score : 0 < k → scoreIn plan k ≡ nextRule q k .score
   pub bit : 0 < k → bitIn plan k ≡ pos (setOf (nextRule q k .signal ∷ []))
 
--- the plan is that of a policy with this operator, whose rules stand in falling rank, under threshold t
-pub record PlanFor (o : Operator) (plan : List ℤ) (q : Policy) (t : ℤ) : Type 0 where
-  pub operator : o ≡ q .operator
+-- the plan is that of a policy whose rules stand in falling rank, under threshold t
+pub record PlanFor (plan : List ℤ) (q : Policy) (t : ℤ) : Type 0 where
   pub range : RulesInRange (q .operator) (q .rules)
   pub fits : ThresholdFits t
   pub rows : (k : ℕ) → k ≤ length (q .rules) → Row plan q t k
 
--- the same of a stored policy
-abbrev pub PlanOf : StoredPolicy → ℤ → List ℤ → Type 0
-PlanOf p t plan = (q : Policy) → p ≡ storedPolicy q → RulesInRange (q .operator) (q .rules) → PlanFor (p .operator) plan q t
+-- the plan is that of policy k, with its rules in falling rank
+abbrev pub PlanKept : List ℤ → ℕ → ℤ → List ℤ → Type 0
+PlanKept cells k t plan = (h : PolicyKept cells k) → PlanFor plan (inRankOrder (h .policy)) t

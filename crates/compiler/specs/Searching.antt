@@ -42,7 +42,8 @@ found p left = foundFrom (having p) (p .taken) (restOf left (p .policy .rules))
 
 -- `count` rules are taken and worth `value`, `left` are still to come, and the plan is that of the policy and the threshold
 pub record Searching (o : Operator) (plan : List ℤ) (count : ℕ) (value : ℤ) (left : ℕ) (p : Point) : Type 0 where
-  pub planned : PlanFor o plan (p .policy) (p .threshold)
+  pub operator : o ≡ p .policy .operator
+  pub planned : PlanFor plan (p .policy) (p .threshold)
   pub counted : count ≡ length (p .taken)
   pub valued : value ≡ worth (p .policy .operator) (p .taken)
   pub inside : length (p .taken) + left ≤ length (p .policy .rules)

@@ -141,12 +141,10 @@ pub fn count_lines(cells: &book::Cells, k: usize, threshold: i32) -> usize
     requires { ⌜ PolicyKept (now cells) k × ThresholdFits threshold ⌝ }
     ensures { λ r. ⌜ OfLines (now (cells .entry)) k threshold (λ sets. r ≡ length sets) ⌝ }
 {
-    let policy = ranking::in_rank_order(book::policy_at(cells, k));
-    let operator = policy.operator;
-    let rules = policy.count;
-    let plan = planned(policy, threshold);
-    let value = initial(operator);
-    count_found(operator, &plan, 0, value, rules)
+    let plan = planned(cells, k, threshold);
+    let operator = book::operator_at(cells, k);
+    let rules = book::count_at(cells, k);
+    count_found(operator, &plan, 0, initial(operator), rules)
 }
 
 // The records of these lines, which are so many, from record `at` on.
@@ -161,11 +159,19 @@ pub fn put_lines(
     requires { ⌜ LinesKept (now cells) k threshold count × RoomFor at count (now words) ⌝ }
     ensures { λ r. ⌜ LinesPut (now (cells .entry)) k threshold count at (now (words .entry)) (now (words .exit)) ⌝ }
 {
-    let policy = ranking::in_rank_order(book::policy_at(cells, k));
-    let operator = policy.operator;
-    let rules = policy.count;
-    let plan = planned(policy, threshold);
-    let value = initial(operator);
+    let plan = planned(cells, k, threshold);
+    let operator = book::operator_at(cells, k);
+    let rules = book::count_at(cells, k);
     let last = at + count - 1;
-    search(operator, &plan, 0, 0, value, rules, words, at, last);
+    search(
+        operator,
+        &plan,
+        0,
+        0,
+        initial(operator),
+        rules,
+        words,
+        at,
+        last,
+    );
 }
