@@ -8,13 +8,12 @@ use lib.Dec.{ltb}
 use lib.IntN.{ℤ}
 use lib.ListN.{length, length-map}
 use Rattle.arith.specs.Trees.{value, joining}
-use Rattle.layout.specs.Records.{Record, joinKind, policyKind}
+use Rattle.layout.specs.Records.{Record, policyKind}
 use Rattle.layout.specs.Nodes.{lineRecords}
 use Rattle.layout.specs.Writing.{putRecord, putRecords}
 use Rattle.peal.specs.Policies.{Policy, MinMax, smaller, larger, maskOf}
-use Rattle.translation.specs.Translation.{joinOf, quiet, turned, listed}
+use Rattle.translation.specs.Translation.{quiet, turned, listed}
 use Rattle.peal.specs.declared.Sense.{Sense}
-use Rattle.peal.specs.declared.Sense.the-variants.{Above, AtMost}
 use Rattle.peal.proofs.LineLaws.{lines-are-few}
 use Rattle.text.specs.Codes.{codeOf}
 use Rattle.book.proofs.RangeLaws.{rules-at-most}

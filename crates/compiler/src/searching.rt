@@ -144,7 +144,8 @@ pub fn count_lines(cells: &book::Cells, k: usize, threshold: i32) -> usize
     let plan = planned(cells, k, threshold);
     let operator = book::operator_at(cells, k);
     let rules = book::count_at(cells, k);
-    count_found(operator, &plan, 0, initial(operator), rules)
+    let value = initial(operator);
+    count_found(operator, &plan, 0, value, rules)
 }
 
 // The records of these lines, which are so many, from record `at` on.
@@ -162,16 +163,7 @@ pub fn put_lines(
     let plan = planned(cells, k, threshold);
     let operator = book::operator_at(cells, k);
     let rules = book::count_at(cells, k);
+    let value = initial(operator);
     let last = at + count - 1;
-    search(
-        operator,
-        &plan,
-        0,
-        0,
-        initial(operator),
-        rules,
-        words,
-        at,
-        last,
-    );
+    search(operator, &plan, 0, 0, value, rules, words, at, last);
 }

@@ -1,5 +1,4 @@
 -- What holds of the other operators holds where the code finds that the operator is not mul.
-use Prim.Native.Nat.{ℕ}
 use mathlib.Core.List.{[], _∷_}
 use mathlib.Core.Logic.{inl, inr}
 use native.Mathlib.Omega.{arith}

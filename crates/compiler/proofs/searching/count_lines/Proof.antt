@@ -32,12 +32,12 @@ initial-requires : tie.Need-initial-requires
 initial-requires c κs = tt
 
 -- the search begins
-begins : (c : tie.After-initial) → let n = c .before .before in let o = n .before in let s = o .before .before in
+begins : (c : tie.After-initial) → let n = c .before in let o = n .before in let s = o .before .before in
     (h : PolicyKept (now (s .args .cells)) (s .args .k))
     → Searching (o .operator-at .result) (o .before .planned .result) 0 (toZ w64 (ofZ w64 (c .initial .result))) (n .count-at .result)
     (beginning (h .policy) (s .args .threshold))
 begins c h =
-    let n = c .before .before in
+    let n = c .before in
     let o = n .before in
     let p = o .before in
     let fits : SFits w64 (c .initial .result) = search needs in
@@ -45,13 +45,13 @@ begins c h =
     (toZ-ofZ w64 (c .initial .result) fits ∙ c .initial .ensures)
 
 count-found-requires : tie.Need-count-found-requires
-count-found-requires c κs = (_, begins c (c .before .before .before .before .before .pre .0))
+count-found-requires c κs = (_, begins (c .before) (c .before .before .before .before .before .pre .0))
 
 returns : tie.Need-returns
 returns c h =
-    let i = c .before in
+    let i = c .before .before in
     c .count-found .ensures _ (begins i h)
-    ∙ ap (λ (F : List (List Rule)). length F) (found-lines h (i .before .before .count-at .ensures (h .policy) (h .held)) _)
+    ∙ ap (λ (F : List (List Rule)). length F) (found-lines h (i .before .count-at .ensures (h .policy) (h .held)) _)
 
 pub count-lines-spec : {M : Type 1} → statement M
 count-lines-spec =

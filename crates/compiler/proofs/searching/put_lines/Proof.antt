@@ -37,22 +37,32 @@ count-at-requires c κs = c .before .before .before .pre .0 .kept
 initial-requires : tie.Need-initial-requires
 initial-requires c κs = tt
 
--- the lines are found
-module _ (c : tie.After-count-at) where
+-- the search begins, and finds the lines
+module _ (c : tie.After-initial) where
+  abbrev count : tie.After-count-at
+  count = c .before
+
   abbrev start : tie.Start
-  start = c .before .before .before .before
+  start = count .before .before .before .before
 
   module _ (h : LinesKept (now (start .args .cells)) (start .args .k) (start .args .threshold) (start .args .count)) where
     abbrev p : Point
     p = beginning (h .kept .policy) (start .args .threshold)
 
-    all : c .count-at .result ≡ length (h .kept .policy .rules)
-    all = c .count-at .ensures (h .kept .policy) (h .kept .held)
+    all : count .count-at .result ≡ length (h .kept .policy .rules)
+    all = count .count-at .ensures (h .kept .policy) (h .kept .held)
 
-    finds : found p (c .count-at .result) ≡ linesOf (start .args .threshold) (h .kept .policy)
+    begins : Searching (count .before .operator-at .result) (count .before .before .planned .result) 0 (toZ w64 (ofZ w64 (c .initial .result))) (count .count-at .result) p
+    begins =
+        let o = count .before in
+        let fits : SFits w64 (c .initial .result) = search needs in
+        begun (h .kept) all (back start) (o .before .planned .ensures (h .kept)) (o .operator-at .ensures (h .kept .policy) (h .kept .held))
+        (toZ-ofZ w64 (c .initial .result) fits ∙ c .initial .ensures)
+
+    finds : found p (count .count-at .result) ≡ linesOf (start .args .threshold) (h .kept .policy)
     finds = found-lines (h .kept) all (start .args .threshold)
 
-    so-many : length (found p (c .count-at .result)) ≡ start .args .count
+    so-many : length (found p (count .count-at .result)) ≡ start .args .count
     so-many = ap (λ (F : List (List Rule)). length F) finds ∙ sym (h .counted)
 
 add-last : tie.Need-add-last
@@ -61,47 +71,35 @@ add-last c = omega (arith, start c .pre .1 .numbers)
 sub-last : tie.Need-sub-last
 sub-last c = omega (arith, start c .pre .1 .begins)
 
--- the search begins
-begins : (c : tie.After-initial) → let n = c .before .before in let s = start n in
-    (h : LinesKept (now (s .args .cells)) (s .args .k) (s .args .threshold) (s .args .count))
-    → Searching (n .before .operator-at .result) (n .before .before .planned .result) 0 (toZ w64 (ofZ w64 (c .initial .result))) (n .count-at .result) (p n h)
-begins c h =
-    let n = c .before .before in
-    let o = n .before in
-    let fits : SFits w64 (c .initial .result) = search needs in
-    begun (h .kept) (all n h) (back (start n)) (o .before .planned .ensures (h .kept)) (o .operator-at .ensures (h .kept .policy) (h .kept .held))
-    (toZ-ofZ w64 (c .initial .result) fits ∙ c .initial .ensures)
-
 search-requires : tie.Need-search-requires
 search-requires c κs =
-    let i = c .before in
-    let n = i .before .before in
-    let s = start n in
+    let i = c .before .before in
+    let s = start i in
     let k = s .pre .0 in
     let r = s .pre .1 in
-    (p n k, begins i k, no-mask, room-part r (s .args .at) _ (r .begins) (omega (arith, so-many n k)) refl)
+    (p i k, begins i k, no-mask, room-part r (s .args .at) _ (r .begins) (omega (arith, so-many i k)) refl)
 
 -- what the search leaves
-left : (c : tie.After-search) → let n = c .before .before .before .before in let s = start n in
+left : (c : tie.After-search) → let i = c .before .before .before in let s = start i in
     (h : LinesKept (now (s .args .cells)) (s .args .k) (s .args .threshold) (s .args .count))
-    → c .search .last .1 .1 .1 .1 .1 .1 .0 ≡ putSets (s .args .at + s .args .count - 1) (now (s .args .words)) (s .args .at) (found (p n h) (n .count-at .result))
-left c h = let i = c .before .before in c .search .ensures (p (i .before .before) h) (begins i h) no-mask .words
+    → c .search .last .1 .1 .1 .1 .1 .1 .0 ≡ putSets (s .args .at + s .args .count - 1) (now (s .args .words)) (s .args .at) (found (p i h) (count i .count-at .result))
+left c h = let i = c .before .before .before in c .search .ensures (p i h) (begins i h) no-mask .words
 
 same-length : tie.Need-same-length
 unfolding putSets
 same-length c =
     let e = c .before .before in
-    let s = start (e .before .before .before .before) in
+    let s = start (e .before .before .before) in
     ap length (left e (s .pre .0)) ∙ puts-length (now (s .args .words)) (s .args .at) _
 
 returns : tie.Need-returns
 returns c h =
     let e = c .before .before in
-    let n = e .before .before .before .before in
-    let s = start n in
-    let last : s .args .at + length (found (p n h) (n .count-at .result)) ≡ s .args .at + s .args .count - 1 + 1 = omega (arith, s .pre .1 .begins, so-many n h) in
+    let i = e .before .before .before in
+    let s = start i in
+    let last : s .args .at + length (found (p i h) (count i .count-at .result)) ≡ s .args .at + s .args .count - 1 + 1 = omega (arith, s .pre .1 .begins, so-many i h) in
     left e h ∙ put-all (s .args .at + s .args .count - 1) (s .args .at) (now (s .args .words)) _ last
-    ∙ ap (λ (F : List (List Rule)). putRecords (now (s .args .words)) (s .args .at) (lineRecords (s .args .at) (map maskOf F))) (finds n h)
+    ∙ ap (λ (F : List (List Rule)). putRecords (now (s .args .words)) (s .args .at) (lineRecords (s .args .at) (map maskOf F))) (finds i h)
 
 pub put-lines-spec : {M : Type 1} → statement M
 put-lines-spec =
@@ -110,9 +108,9 @@ put-lines-spec =
     planned-requires
     operator-at-requires
     count-at-requires
+    initial-requires
     add-last
     sub-last
-    initial-requires
     search-requires
     same-length
     returns)
