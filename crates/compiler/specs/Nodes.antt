@@ -11,14 +11,13 @@ use Rattle.arith.specs.Trees.{Node, value, joining, postfix}
 use Rattle.layout.specs.Records.{Record, joinKind, policyKind}
 use Rattle.layout.specs.Judgement.{ifAny}
 use Rattle.layout.specs.Nodes.{ListedNode, lineRecords, nodeRecords, exclusionRecords}
-use Rattle.layout.specs.Writing.{putRecords}
+use Rattle.layout.specs.Writing.{RoomFor, putRecords}
 use Rattle.peal.specs.Policies.{MinMax, smaller, Condition, Book, policyAt}
 use Rattle.translation.specs.Translation.{joinOf, listed, translated, pairMask, listingRecords}
 use Rattle.text.specs.Codes.{codeOf, codesOf}
 use Rattle.book.specs.Ranges.{ExclusionsKept, ConditionKept, ForAsked}
 use Rattle.book.specs.Cells.{ForExclusions}
 use Rattle.compiler.specs.Compiling.{fitting, returned, lentAfter}
-use Rattle.compiler.specs.Room.{RoomFor}
 
 -- ---- the nodes of a condition
 

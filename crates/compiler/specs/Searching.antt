@@ -8,7 +8,7 @@ use lib.IntN.{ℤ, natAbs}
 use lib.ListN.{length}
 use lib.Signed.{nonNeg}
 use Rattle.layout.specs.Nodes.{lineRecords}
-use Rattle.layout.specs.Writing.{putRecords, linesUpTo}
+use Rattle.layout.specs.Writing.{RoomFor, putRecords, linesUpTo}
 use Rattle.peal.specs.Policies.{Rule, Policy, maskOf}
 use Rattle.peal.specs.Lines.{lines, has}
 use Rattle.peal.specs.Search.{foundFrom}
@@ -16,7 +16,6 @@ use Rattle.peal.specs.declared.Operator.{Operator}
 use Rattle.book.specs.Ranges.{PolicyKept}
 use Rattle.compiler.specs.Worth.{worth}
 use Rattle.compiler.specs.Planning.{ThresholdFits, restOf, nextRule, RulesInRange, PlanFor}
-use Rattle.compiler.specs.Room.{RoomFor}
 
 -- a point of the search: a policy whose rules stand in falling rank, a threshold, and the rules taken
 pub record Point : Type 0 where

@@ -12,11 +12,11 @@ ghost use mathlib.Core.Path.{_≡_};
 ghost use Prim.Native.Nat.{_+_, _^_, _<_};
 ghost use Rattle.arith.specs.Trees.{value, joining};
 ghost use Rattle.layout.specs.Records.{joinKind, policyKind};
+ghost use Rattle.layout.specs.Writing.{RoomFor};
 ghost use Rattle.peal.specs.Score.{scaled, meets};
 ghost use Rattle.translation.specs.Translation.{joinOf, turned, listed};
 ghost use Rattle.book.specs.Ranges.{ConditionKept, ForAsked};
 ghost use Rattle.compiler.specs.Searching.{LinesKept, ForLines};
-ghost use Rattle.compiler.specs.Room.{RoomFor};
 ghost use Rattle.compiler.specs.Nodes.{ForJoin, NodeKept, NodeCounted, linesIn, nodeAt, follows, CountsUpTo, CountsKept, RecordsCounted, NodePut, NodesFit, NodesPut};
 
 // How many lines each node of a condition has: there is a code for each node.

@@ -14,13 +14,13 @@ ghost use Prim.Native.Nat.{_+_, _^_, _≤_};
 ghost use lib.IntN.{natAbs};
 ghost use lib.ListN.{length};
 ghost use lib.Signed.{mag};
+ghost use Rattle.layout.specs.Writing.{RoomFor};
 ghost use Rattle.peal.specs.Combining.{combinedOf};
 ghost use Rattle.book.specs.Cells.{mostRules};
 ghost use Rattle.book.specs.Ranges.{PolicyKept};
 ghost use Rattle.compiler.specs.Worth.{reachedOf};
 ghost use Rattle.compiler.specs.Planning.{ThresholdFits, scoreIn, bitIn};
 ghost use Rattle.compiler.specs.Searching.{having, allAt, found, CanSearch, ForPoints, BitFits, CanPut, FoundPut, OfLines, LinesKept, LinesPut};
-ghost use Rattle.compiler.specs.Room.{RoomFor};
 
 // A value is on the side of the limit that counts.
 fn is_reached(operator: peal::Operator, limit: i64, value: i64) -> bool

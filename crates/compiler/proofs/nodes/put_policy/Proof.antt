@@ -74,7 +74,7 @@ number-if-requires-2 : tie.Need-number-if-requires-2
 number-if-requires-2 c κs = let s = c .before .before .before .before .before .before in omega (arith, s .pre .1 .numbers)
 
 put-record-requires : tie.Need-put-record-requires
-put-record-requires c κs = let s = c .before .before .before .before .before .before .before .before in (s .pre .1 .begins, omega (arith, s .pre .1 .inside, s .pre .1 .begins))
+put-record-requires c κs = let s = c .before .before .before .before .before .before .before .before in (s .pre .1 .begins, omega (arith, s .pre .1 .room, s .pre .1 .begins))
 
 -- after the record
 abbrev start : tie.After-put-lines-arg → tie.Start

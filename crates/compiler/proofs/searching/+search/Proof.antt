@@ -14,7 +14,7 @@ use mir.Val.{SFits, toZ, ofZ}
 use mir.ValLaws.{toZ-ofZ}
 use Rattle.peal.specs.Policies.{maskOf}
 use Rattle.layout.proofs.WritingLaws.{put-length, puts-length}
-use Rattle.compiler.specs.Room.{RoomFor}
+use Rattle.layout.specs.Writing.{RoomFor}
 use Rattle.compiler.specs.Searching.{Point, taking, found, Searching, putSets, SetsPut}
 use Rattle.compiler.proofs.RoomLaws.{room-part}
 use Rattle.compiler.proofs.PointLaws.{taken-few, read-back, none-coming, next-small, next-mask, bit-fits}
@@ -155,11 +155,10 @@ module _ (t : ℕ) where
   put-line-requires c κs =
       let d = c .before .before in
       let l = turn (d .before) in
-      let r = room l 1 (one-room (asked l) (trying (d .before)) (d .has-reached .ensures) (c .before .if2 .taken)) in
-      (r .begins, r .numbers, omega (arith, r .inside))
+      room l 1 (one-room (asked l) (trying (d .before)) (d .has-reached .ensures) (c .before .if2 .taken))
 
   add-after : lts.Need-add-after (calls t) (search-at t) search′.Post Inv-loop μ-loop
-  add-after c = let p = c .before .before in record { fits = omega (arith, put-line-requires (p .before) (p .put-line .lifetimes) .1) }
+  add-after c = let p = c .before .before in record { fits = omega (arith, put-line-requires (p .before) (p .put-line .lifetimes) .numbers) }
 
   loop-less : lts.Need-loop-less (calls t) (search-at t) search′.Post Inv-loop μ-loop
   loop-less c = omega (arith, turn (c .before .before .before .before .before .before) .loop-test .taken)
