@@ -38,7 +38,7 @@ module _ {cells : List ℤ} {k : ℕ} (h : PolicyKept cells k) {count : ℕ} (al
         planned = subst (PlanFor plan (inRankOrder (h .policy))) back p;
         counted = refl;
         valued = e ∙ ap initial same;
-        inside = omega (arith, all, ranked-length (h .policy));
+        among = omega (arith, all, ranked-length (h .policy));
         range = record { signals = tt; scores = tt; few = omega arith; room = λ m. omega arith };
       }
 

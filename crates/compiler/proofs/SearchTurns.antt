@@ -13,7 +13,7 @@ use Rattle.layout.proofs.WritingLaws.{put-lines-append, lines-up-to}
 use Rattle.peal.specs.Policies.{Rule, maskOf}
 use Rattle.peal.specs.Combining.{combinedOf}
 use Rattle.peal.specs.declared.Operator.{Operator}
-use Rattle.compiler.specs.Planning.{scoreIn}
+use Rattle.compiler.specs.Planning.{planScore}
 use Rattle.compiler.specs.Searching.{Point, having, allAt, taking, found, Searching, ForPoints, putSets}
 use Rattle.compiler.proofs.PointLaws.{none-coming, left-out, taken-in}
 use Rattle.compiler.proofs.FoundLaws.{tried, tried-itself, tried-further, found-further}
@@ -35,7 +35,7 @@ pub record Underway {A : Type 0} (d : Doing A) (o : Operator) (plan : List ℤ) 
 pub record Trying (o : Operator) (plan : List ℤ) (count : ℕ) (value : ℤ) (left : ℕ) (v : ℤ) : Type 0 where
   pub some : 0 < left
   pub reaches : ForPoints o plan count value left (λ p. having p (allAt p left) ≡ true)
-  pub valued : v ≡ combinedOf o value (scoreIn plan left)
+  pub valued : v ≡ combinedOf o value (planScore plan left)
 
 -- the point with that rule
 pub taken : {o : Operator} {plan : List ℤ} {count : ℕ} {value : ℤ} {left : ℕ} {v : ℤ} {p : Point} → Trying o plan count value left v → Searching o plan count value left p
@@ -112,16 +112,16 @@ counting = record { run = λ n F. n + length F; number = λ n. n; none = add-zer
 
 -- ---- they are put as lines
 
-pub put-append : (last n : ℕ) (words : List ℕ) (F G : List (List Rule)) → putSets last words n (F ++ G) ≡ putSets last (putSets last words n F) (n + length F) G
+pub put-append : (last n : ℕ) (before : List ℕ) (F G : List (List Rule)) → putSets last before n (F ++ G) ≡ putSets last (putSets last before n F) (n + length F) G
 unfolding putSets
-put-append last n words F G =
-    ap (λ (l : List ℕ). putRecords words n (linesUpTo last n l)) (map-append maskOf F G)
-    ∙ put-lines-append last n (map maskOf F) (map maskOf G) words
-    ∙ ap (λ (k : ℕ). putRecords (putRecords words n (linesUpTo last n (map maskOf F))) (n + k) (linesUpTo last (n + k) (map maskOf G))) (length-map F maskOf)
+put-append last n before F G =
+    ap (λ (l : List ℕ). putRecords before n (linesUpTo last n l)) (map-append maskOf F G)
+    ∙ put-lines-append last n (map maskOf F) (map maskOf G) before
+    ∙ ap (λ (k : ℕ). putRecords (putRecords before n (linesUpTo last n (map maskOf F))) (n + k) (linesUpTo last (n + k) (map maskOf G))) (length-map F maskOf)
 
-pub put-none : (last n : ℕ) (words : List ℕ) → putSets last words n [] ≡ words
+pub put-none : (last n : ℕ) (before : List ℕ) → putSets last before n [] ≡ before
 unfolding putSets linesUpTo putRecords
-put-none last n words = refl
+put-none last n before = refl
 
 -- the record that comes next, and the words
 abbrev pub Put : Type 0
@@ -138,11 +138,11 @@ putting last =
     }
 
 -- the line of one set
-pub put-one : (last n : ℕ) (words : List ℕ) (X : List Rule) {mask : ℕ} → mask ≡ maskOf X → putRecord words n (lineRecord last n mask) ≡ putSets last words n (X ∷ [])
+pub put-one : (last n : ℕ) (before : List ℕ) (X : List Rule) {mask : ℕ} → mask ≡ maskOf X → putRecord before n (lineRecord last n mask) ≡ putSets last before n (X ∷ [])
 unfolding putSets linesUpTo putRecords
-put-one last n words X e = ap (λ (m : ℕ). putRecord words n (lineRecord last n m)) e
+put-one last n before X e = ap (λ (m : ℕ). putRecord before n (lineRecord last n m)) e
 
 -- all sets, where the last of them is record `last`
-pub put-all : (last n : ℕ) (words : List ℕ) (F : List (List Rule)) → n + length F ≡ last + 1 → putSets last words n F ≡ putRecords words n (lineRecords n (map maskOf F))
+pub put-all : (last n : ℕ) (before : List ℕ) (F : List (List Rule)) → n + length F ≡ last + 1 → putSets last before n F ≡ putRecords before n (lineRecords n (map maskOf F))
 unfolding putSets
-put-all last n words F e = ap (putRecords words n) (lines-up-to last n (map maskOf F) (ap (λ (k : ℕ). n + k) (length-map F maskOf) ∙ e))
+put-all last n before F e = ap (putRecords before n) (lines-up-to last n (map maskOf F) (ap (λ (k : ℕ). n + k) (length-map F maskOf) ∙ e))

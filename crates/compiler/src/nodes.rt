@@ -15,9 +15,9 @@ ghost use Rattle.layout.specs.Records.{joinKind, policyKind};
 ghost use Rattle.layout.specs.Writing.{RoomFor};
 ghost use Rattle.peal.specs.Score.{scaled, meets};
 ghost use Rattle.translation.specs.Translation.{joinOf, turned, listed};
-ghost use Rattle.book.specs.Ranges.{ConditionKept, ForAsked};
+ghost use Rattle.book.specs.Ranges.{ConditionKept, ForAsked, CodeKept};
 ghost use Rattle.compiler.specs.Searching.{LinesKept, ForLines};
-ghost use Rattle.compiler.specs.Nodes.{ForJoin, NodeKept, NodeCounted, linesIn, nodeAt, follows, CountsUpTo, CountsKept, RecordsCounted, NodePut, NodesFit, NodesPut};
+ghost use Rattle.compiler.specs.Nodes.{ForJoin, NodeCounted, linesIn, nodeAt, follows, CountsUpTo, CountsKept, RecordsCounted, NodePut, NodesFit, NodesPut};
 
 // How many lines each node of a condition has: there is a code for each node.
 pub type LineCounts = [usize; CODE_COUNT];
@@ -33,7 +33,7 @@ fn join_kind(sense: peal::Sense, code: u32) -> u32
 }
 
 // A default meets the condition.
-fn is_met(sense: peal::Sense, threshold: i32, default: i32) -> bool
+fn default_meets(sense: peal::Sense, threshold: i32, default: i32) -> bool
     ensures { λ r. ⌜ r ≡ meets sense threshold (scaled default) ⌝ }
 {
     match sense {
@@ -58,7 +58,7 @@ fn mention_kind(sense: peal::Sense, threshold: i32, operator: peal::Operator, de
     ensures { λ r. ⌜ r ≡ policyKind (meets sense threshold (scaled default)) (turned sense operator) ⌝ }
 {
     layout::policy_kind(
-        is_met(sense, threshold, default),
+        default_meets(sense, threshold, default),
         is_turned(sense, operator),
     )
 }
@@ -76,7 +76,7 @@ fn number_if(there: bool, number: usize) -> u32
 
 // How many lines node i of condition n has.
 fn node_lines(cells: &book::Cells, n: usize, i: usize) -> usize
-    requires { ⌜ NodeKept (now cells) n i ⌝ }
+    requires { ⌜ CodeKept (now cells) n i ⌝ }
     ensures { λ r. ⌜ ForAsked (now (cells .entry)) n (λ b c. r ≡ linesIn (nodeAt b c i)) ⌝ }
 {
     let code = book::code_at(cells, n, i);
@@ -90,7 +90,7 @@ fn node_lines(cells: &book::Cells, n: usize, i: usize) -> usize
 
 // The same, from how many lines the nodes before it have: a policy that was mentioned before is not searched again.
 fn next_lines(cells: &book::Cells, n: usize, lines: &LineCounts, i: usize) -> usize
-    requires { ⌜ NodeKept (now cells) n i × CountsUpTo (now cells) n (now lines) i ⌝ }
+    requires { ⌜ CodeKept (now cells) n i × CountsUpTo (now cells) n (now lines) i ⌝ }
     ensures { λ r. ⌜ ForAsked (now (cells .entry)) n (λ b c. r ≡ linesIn (nodeAt b c i)) ⌝ }
 {
     let code = book::code_at(cells, n, i);

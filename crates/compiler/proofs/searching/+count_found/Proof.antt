@@ -88,8 +88,8 @@ module _ (t : ℕ) where
           valued = toZ-ofZ w64 (c .next-value .result) fits ∙ c .next-value .ensures;
         }
 
-  add-taken : lts.Need-add-taken (calls t) (count-at t) counted.Post Inv-loop μ-loop
-  add-taken c = record { fits = omega (arith, few (turn c)) }
+  add-size : lts.Need-add-size (calls t) (count-at t) counted.Post Inv-loop μ-loop
+  add-size c = record { fits = omega (arith, few (turn c)) }
 
   sub-left : lts.Need-sub-left (calls t) (count-at t) counted.Post Inv-loop μ-loop
   sub-left c = omega (arith, turn c .loop-test .taken)
@@ -171,7 +171,7 @@ pub +count-found-spec : {M : Type 1} → statement M
     (can-reach-requires t)
     (returns t)
     (next-value-requires t)
-    (add-taken t)
+    (add-size t)
     (sub-left t)
     (has-reached-requires t)
     (add-sets t)

@@ -102,7 +102,7 @@ module _ (t : ℕ) where
       Underway (putting (s .args .last)) (s .args .operator) (now (s .args .plan)) (s .args .count) (toZ w64 (ofZ w64 (s .args .value))) p (s .args .at, now (s .args .words)) (s .args .rank)
       (l .loop .after, l .loop .words) (l .loop .left)
       → found p (l .loop .left) ≡ [] → SetsPut (s .args .last) (s .args .at) (now (s .args .words)) (found p (s .args .rank)) (l .loop .after) (l .loop .words)
-  over l u e = let x = ended u e in record { number = ap (λ (y : Put). y .0) x; words = ap (λ (y : Put). y .1) x }
+  over l u e = let x = ended u e in record { number = ap (λ (y : Put). y .0) x; written = ap (λ (y : Put). y .1) x }
 
   returns : lts.Need-returns (calls t) (search-at t) search′.Post Inv-loop μ-loop
   returns c p h e =
@@ -140,8 +140,8 @@ module _ (t : ℕ) where
         → c .next-mask .result ≡ maskOf (taking p (at turn .loop .left) .taken)
     masked h e = c .next-mask .ensures ∙ next-mask (turn .loop-test .taken) h e
 
-  add-taken : lts.Need-add-taken (calls t) (search-at t) search′.Post Inv-loop μ-loop
-  add-taken c = record { fits = omega (arith, few (turn c)) }
+  add-size : lts.Need-add-size (calls t) (search-at t) search′.Post Inv-loop μ-loop
+  add-size c = record { fits = omega (arith, few (turn c)) }
 
   sub-left : lts.Need-sub-left (calls t) (search-at t) search′.Post Inv-loop μ-loop
   sub-left c = omega (arith, turn c .loop-test .taken)
@@ -209,11 +209,11 @@ module _ (t : ℕ) where
       let put = p .search .ensures _ (taken (trying w) z) (masked w z (first (turn w) .pre .1 .2)) in (
         omega (arith, l .inv .0),
         omega (arith, l .inv .1, put .number),
-        ap length (put .words) ∙ puts-length (l .words) (l .after) _ ∙ l .inv .2,
+        ap length (put .written) ∙ puts-length (l .words) (l .after) _ ∙ l .inv .2,
         λ q h e.
             let u = l .inv .3 q h e in
             let s = p .search .ensures _ (taken (trying w) (u .here)) (masked w (u .here) e) in
-            more-done u (trying w) (d .has-reached .ensures) (p .before .before .if2 .left) (λ i. (s .number i, s .words i)),
+            more-done u (trying w) (d .has-reached .ensures) (p .before .before .if2 .left) (λ i. (s .number i, s .written i)),
       )
 
   same-length-2 : lts.Need-same-length-2 (calls t) (search-at t) search′.Post Inv-loop μ-loop
@@ -234,7 +234,7 @@ pub +search-spec : {M : Type 1} → statement M
     (returns t)
     (next-value-requires t)
     (next-mask-requires t)
-    (add-taken t)
+    (add-size t)
     (sub-left t)
     (has-reached-requires t)
     (put-line-requires t)

@@ -9,7 +9,7 @@ use lib.Signed.{mag}
 use mir.Syntax.{w64}
 use mir.Val.{SFits, toZ, ofZ}
 use mir.ValLaws.{toZ-ofZ}
-use Rattle.compiler.specs.Planning.{limitIn, restIn}
+use Rattle.compiler.specs.Planning.{planLimit, planRest}
 use Rattle.compiler.proofs.PointLaws.{taken-few, all-small, all-tell}
 use Rattle.compiler.proofs.searching.can_reach.Statement.{statement}
 use Rattle.compiler.proofs.searching.can_reach.Tie as tie
@@ -49,7 +49,7 @@ combined-requires : tie.Need-combined-requires
 combined-requires c κs =
     let s = c .before .before in
     all-small (s .pre .1) (value-back s)
-    (toZ-ofZ w64 (restIn (now (s .args .plan)) (s .args .left)) (record { sfits = c .rest .given }))
+    (toZ-ofZ w64 (planRest (now (s .args .plan)) (s .args .left)) (record { sfits = c .rest .given }))
 
 is-reached-requires : tie.Need-is-reached-requires
 is-reached-requires c κs =
@@ -64,8 +64,8 @@ returns c p h =
     let fits : SFits w64 (d .combined .result) = search needs in
     c .is-reached .ensures
     ∙ all-tell h (value-back s)
-    (toZ-ofZ w64 (restIn (now (s .args .plan)) (s .args .left)) (record { sfits = r .rest .given }))
-    (toZ-ofZ w64 (limitIn (now (s .args .plan)) (s .args .count + s .args .left)) (record { sfits = r .before .limit .given }))
+    (toZ-ofZ w64 (planRest (now (s .args .plan)) (s .args .left)) (record { sfits = r .rest .given }))
+    (toZ-ofZ w64 (planLimit (now (s .args .plan)) (s .args .count + s .args .left)) (record { sfits = r .before .limit .given }))
     (toZ-ofZ w64 (d .combined .result) fits ∙ d .combined .ensures)
 
 pub can-reach-spec : {M : Type 1} → statement M

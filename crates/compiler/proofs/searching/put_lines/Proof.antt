@@ -83,7 +83,7 @@ search-requires c κs =
 left : (c : tie.After-search) → let i = c .before .before .before in let s = start i in
     (h : LinesKept (now (s .args .cells)) (s .args .k) (s .args .threshold) (s .args .count))
     → c .search .last .1 .1 .1 .1 .1 .1 .0 ≡ putSets (s .args .at + s .args .count - 1) (now (s .args .words)) (s .args .at) (found (p i h) (count i .count-at .result))
-left c h = let i = c .before .before .before in c .search .ensures (p i h) (begins i h) no-mask .words
+left c h = let i = c .before .before .before in c .search .ensures (p i h) (begins i h) no-mask .written
 
 same-length : tie.Need-same-length
 unfolding putSets
