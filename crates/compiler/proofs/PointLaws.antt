@@ -58,9 +58,12 @@ module _ {op : Operator} {plan : List ℤ} {count : ℕ} {value : ℤ} {left : �
   read-back fits =
       record { operator = h .operator; planned = h .planned; counted = h .counted; valued = toZ-ofZ w64 value fits ∙ h .valued; among = h .among; range = h .range }
 
-  -- the same, with no rule still to come
+  -- the same, with fewer rules still to come, and with none
+  pub fewer-coming : (m : ℕ) → m ≤ left → Searching op plan count value m p
+  fewer-coming m e = record { operator = h .operator; planned = h .planned; counted = h .counted; valued = h .valued; among = omega (arith, h .among); range = h .range }
+
   pub none-coming : Searching op plan count value 0 p
-  none-coming = record { operator = h .operator; planned = h .planned; counted = h .counted; valued = h .valued; among = omega (arith, h .among); range = h .range }
+  none-coming = fewer-coming 0 (omega arith)
 
   -- a limit and a value tell whether rules Y have the property
   tells : (Y : List Rule) → RulesInRange o Y → (k : ℕ) → k ≡ length Y → k ≤ length rules → {l v : ℤ} → l ≡ planLimit plan k → v ≡ worth o Y
@@ -100,10 +103,6 @@ module _ {op : Operator} {plan : List ℤ} {count : ℕ} {value : ℤ} {left : �
       let e : left - 1 + 1 ≡ left = omega arith in
       ap (λ (n : ℕ). restOf n (p .policy .rules)) (sym e) ∙ more-rest (p .policy .rules) (left - 1) (omega (arith, h .among))
       ∙ ap (λ (n : ℕ). getD (p .policy .rules) (length (p .policy .rules) - n) noRule ∷ restOf (left - 1) (p .policy .rules)) e
-
-  -- the rule is left out
-  pub left-out : Searching op plan count value (left - 1) p
-  left-out = record { operator = h .operator; planned = h .planned; counted = h .counted; valued = h .valued; among = omega (arith, h .among); range = h .range }
 
   -- what the plan has of it
   row : Row plan (p .policy) (p .threshold) left

@@ -14,8 +14,8 @@ use Rattle.peal.specs.Policies.{Rule, maskOf}
 use Rattle.peal.specs.Combining.{combinedOf}
 use Rattle.peal.specs.declared.Operator.{Operator}
 use Rattle.compiler.specs.Planning.{planScore}
-use Rattle.compiler.specs.Searching.{Point, having, allAt, taking, found, Searching, ForPoints, putSets}
-use Rattle.compiler.proofs.PointLaws.{none-coming, left-out, taken-in}
+use Rattle.compiler.specs.Searching.{Point, having, allAt, taking, found, Searching, ForPoints, putSets, SetsPut}
+use Rattle.compiler.proofs.PointLaws.{none-coming, fewer-coming, taken-in}
 use Rattle.compiler.proofs.FoundLaws.{tried, tried-itself, tried-further, found-further}
 
 -- what is done with sets, one after the other, and the number that comes next
@@ -74,7 +74,7 @@ module _ {A : Type 0} {d : Doing A} {o : Operator} {plan : List ℤ} {count : �
     passed : {F : List (List Rule)} → tried next (left - 1) ≡ F → {x : A} → x ≡ d .run a F → Underway d o plan count value p begun rank x (left - 1)
     passed e f =
         record {
-          here = left-out (t .some) (u .here);
+          here = fewer-coming (u .here) (left - 1) (omega arith);
           leads =
               ap (λ (y : A). d .run y (found p (left - 1))) (f ∙ ap (d .run a) (sym e))
               ∙ sym (ap (d .run a) further ∙ d .append a (tried next (left - 1)) (found p (left - 1))) ∙ u .leads;
@@ -136,6 +136,11 @@ putting last =
       append = λ a F G i. (counted-append (a .0) F G i, put-append last (a .0) (a .1) F G i);
       counts = λ a F. refl;
     }
+
+-- nothing more is found
+pub put-ended : {last : ℕ} {o : Operator} {plan : List ℤ} {count : ℕ} {value : ℤ} {p : Point} {at : ℕ} {before : List ℕ} {rank next : ℕ} {after : List ℕ} {left : ℕ}
+    → Underway (putting last) o plan count value p (at, before) rank (next, after) left → found p left ≡ [] → SetsPut last at before (found p rank) next after
+put-ended u e = let x = ended u e in record { number = ap (λ (y : Put). y .0) x; written = ap (λ (y : Put). y .1) x }
 
 -- the line of one set
 pub put-one : (last n : ℕ) (before : List ℕ) (X : List Rule) {mask : ℕ} → mask ≡ maskOf X → putRecord before n (lineRecord last n mask) ≡ putSets last before n (X ∷ [])

@@ -7,13 +7,13 @@ use lib.Dec.{ltb}
 use lib.IntN.{ℤ}
 use lib.ListN.{length, getD}
 use Rattle.answers.specs.Answers.{Answer}
-use Rattle.arith.specs.Trees.{Node, value, joining, postfix}
+use Rattle.arith.specs.Trees.{value, joining, postfix}
 use Rattle.layout.specs.Records.{Record, joinKind, policyKind}
 use Rattle.layout.specs.Judgement.{ifAny}
 use Rattle.layout.specs.Nodes.{ListedNode, lineRecords, nodeRecords, exclusionRecords}
 use Rattle.layout.specs.Writing.{RoomFor, putRecords}
-use Rattle.peal.specs.Policies.{MinMax, smaller, Condition, Book, policyAt}
-use Rattle.translation.specs.Translation.{joinOf, listed, translated, pairMask, listingRecords}
+use Rattle.peal.specs.Policies.{MinMax, smaller, Condition, Book}
+use Rattle.translation.specs.Translation.{joinOf, translated, pairMask, listingRecords}
 use Rattle.text.specs.Codes.{codeOf, codesOf}
 use Rattle.book.specs.Ranges.{ExclusionsKept, ConditionKept, ForAsked, CodeKept}
 use Rattle.book.specs.Cells.{ForExclusions}
@@ -26,17 +26,12 @@ unfoldable pub linesIn : ListedNode → ℕ
 linesIn (value p) = length (p .lines)
 linesIn (joining j) = 0
 
--- what a node of a condition's expression becomes
-unfoldable pub listedNode : Book → Condition → Node MinMax ℕ → ListedNode
-listedNode b c (value n) = value (listed (c .sense) (c .threshold) (policyAt (b .policies) n))
-listedNode b c (joining m) = joining (joinOf (c .sense) m)
-
 -- the nodes of a condition's listing, and node i of them
 unfoldable pub nodesOf : Book → Condition → List ListedNode
 nodesOf b c = postfix (translated (b .policies) c)
 
 unfoldable pub nodeAt : Book → Condition → ℕ → ListedNode
-nodeAt b c i = listedNode b c (getD (postfix (c .expression)) i (joining smaller))
+nodeAt b c i = getD (nodesOf b c) i (joining (joinOf (c .sense) smaller))
 
 -- whether a node follows node i
 abbrev pub follows : Condition → ℕ → Bool

@@ -2,7 +2,6 @@
 use mathlib.Core.Path.{_≡_, refl, sym, ap, _∙_}
 use borrow.Author.Needs.{needs}
 use mir.Syntax.{w32, w64}
-use mir.Val.{SFits}
 use mir.ValLaws.{toZ-ofZ}
 use Rattle.arith.proofs.Signed.{wide-fits, wide-back}
 use Rattle.peal.specs.declared.Operator.{Operator}
@@ -22,8 +21,7 @@ returns : tie.Need-returns
 returns c =
     let s = c .before .before .before in
     let t = s .args .threshold in
-    let fits : SFits w64 (c .clamped .result) = search needs in
-    toZ-ofZ w64 (c .clamped .result) fits ∙ c .clamped .ensures ∙ ap clamped (toZ-ofZ w32 t (s .fits .threshold)) ∙ clamped-limit t
+    toZ-ofZ w64 (c .clamped .result) (search needs) ∙ c .clamped .ensures ∙ ap clamped (toZ-ofZ w32 t (s .fits .threshold)) ∙ clamped-limit t
     ∙ ap (λ (o : Operator). limitOf o t 0) (sym (c .before .enum-told .given .1))
 
 cast-result : tie.Need-cast-result

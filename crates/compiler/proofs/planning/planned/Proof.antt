@@ -9,7 +9,7 @@ use lib.IntN.{ℤ, pos}
 use lib.ListN.{length, getD}
 use lib.Signed.{mag}
 use mir.Syntax.{w32, w64}
-use mir.Val.{SFits, toZ, ofZ}
+use mir.Val.{toZ, ofZ}
 use mir.ValLaws.{toZ-ofZ}
 use Rattle.arith.proofs.Signed.{wide-fits, wide-back}
 use Rattle.signals.specs.Sets.{setOf}
@@ -79,13 +79,11 @@ put-row-requires c κs = omega arith
 loop-holds : tie.Need-loop-holds Inv-loop μ-loop
 loop-holds c =
     let b = c .before .before in
-    let f = b .before in
-    let limit-fits : SFits w64 (f .first-limit .result) = search needs in
-    let rest-fits : SFits w64 (b .initial .result) = search needs in (
+    let f = b .before in (
       omega arith,
       λ h.
-          planned-start (same (f .before) h) (toZ-ofZ w64 (f .first-limit .result) limit-fits ∙ f .first-limit .ensures)
-          (toZ-ofZ w64 (b .initial .result) rest-fits ∙ b .initial .ensures) (c .put-row .ensures),
+          planned-start (same (f .before) h) (toZ-ofZ w64 (f .first-limit .result) (search needs) ∙ f .first-limit .ensures)
+          (toZ-ofZ w64 (b .initial .result) (search needs) ∙ b .initial .ensures) (c .put-row .ensures),
     )
 
 -- ---- a turn
@@ -181,13 +179,11 @@ loop-again c =
     let n = m .before in
     let b = n .before in
     let g = b .before in
-    let l = g .before .before in
-    let limit-fits : SFits w64 (n .next-limit .result) = search needs in
-    let rest-fits : SFits w64 (m .combined .result) = search needs in (
+    let l = g .before .before in (
       omega (arith, l .loop-test .taken),
       λ h.
           planned-turn (same (order l) h) (turn l .loop .inv .1 h) (inside l h) (score-back g ∙ score-is l h) (range (order l) h .few)
-          (λ t j f. toZ-ofZ w64 (n .next-limit .result) limit-fits ∙ n .next-limit .ensures t j f) (toZ-ofZ w64 (m .combined .result) rest-fits ∙ m .combined .ensures)
+          (λ t j f. toZ-ofZ w64 (n .next-limit .result) (search needs) ∙ n .next-limit .ensures t j f) (toZ-ofZ w64 (m .combined .result) (search needs) ∙ m .combined .ensures)
           (toZ-ofZ w64 (pos (b .bit .result)) (cast-bit b) ∙ ap pos (b .bit .ensures ∙ ap (λ (s : ℕ). setOf (s ∷ [])) (signal-is l h))) (c .put-row2 .ensures),
     )
 

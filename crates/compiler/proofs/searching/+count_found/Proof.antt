@@ -10,7 +10,7 @@ use borrow.Fn.PlainCycle.{Measures, is, falls, and}
 use denote.Ref.{now}
 use lib.ListN.{length}
 use mir.Syntax.{w64}
-use mir.Val.{SFits, toZ, ofZ}
+use mir.Val.{toZ, ofZ}
 use mir.ValLaws.{toZ-ofZ}
 use Rattle.compiler.specs.Searching.{Point, taking, found, Searching}
 use Rattle.compiler.proofs.PointLaws.{taken-few, read-back, none-coming, next-small}
@@ -81,11 +81,10 @@ module _ (t : ℕ) where
     trying : let a = first turn .args in
         Trying (a .operator) (now (a .plan)) (a .count) (toZ w64 (ofZ w64 (a .value))) (turn .before .loop .left) (toZ w64 (ofZ w64 (c .next-value .result)))
     trying =
-        let fits : SFits w64 (c .next-value .result) = search needs in
         record {
           some = turn .loop-test .taken;
           reaches = λ p h. sym (c .before .before .can-reach .ensures p h) ∙ not-false _ (c .before .if1 .left);
-          valued = toZ-ofZ w64 (c .next-value .result) fits ∙ c .next-value .ensures;
+          valued = toZ-ofZ w64 (c .next-value .result) (search needs) ∙ c .next-value .ensures;
         }
 
   add-size : lts.Need-add-size (calls t) (count-at t) counted.Post Inv-loop μ-loop

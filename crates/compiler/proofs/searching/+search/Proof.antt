@@ -1,6 +1,5 @@
 -- `compiler::searching::search`: what is left to be found is all that is left to be put; each call has fewer rules to come.
 use Prim.Native.Nat.{ℕ, _+_, _<_, _≤_}
-use mathlib.Core.List.{[]}
 use mathlib.Core.Path.{_≡_, refl, sym, ap, _∙_}
 use native.Mathlib.Omega.{arith}
 use borrow.Author.Needs.{needs}
@@ -10,16 +9,16 @@ use borrow.Fn.PlainCycle.{Measures, is, falls, and}
 use denote.Ref.{now}
 use lib.ListN.{length}
 use mir.Syntax.{w64}
-use mir.Val.{SFits, toZ, ofZ}
+use mir.Val.{toZ, ofZ}
 use mir.ValLaws.{toZ-ofZ}
 use Rattle.peal.specs.Policies.{maskOf}
 use Rattle.layout.proofs.WritingLaws.{put-length, puts-length}
 use Rattle.layout.specs.Writing.{RoomFor}
-use Rattle.compiler.specs.Searching.{Point, taking, found, Searching, putSets, SetsPut}
+use Rattle.compiler.specs.Searching.{Point, taking, found, Searching, putSets}
 use Rattle.compiler.proofs.RoomLaws.{room-part}
 use Rattle.compiler.proofs.PointLaws.{taken-few, read-back, none-coming, next-small, next-mask, bit-fits}
 use Rattle.compiler.proofs.FoundLaws.{nothing-found, found-none}
-use Rattle.compiler.proofs.SearchTurns.{Underway, Trying, taken, ended, one-room, one-done, more-room, more-done, Put, putting, put-one}
+use Rattle.compiler.proofs.SearchTurns.{Underway, Trying, taken, one-room, one-done, more-room, more-done, putting, put-one, put-ended}
 use Rattle.compiler.proofs.searching.search.Reads as search′
 use Rattle.compiler.proofs.searching.search.Kinds as search-kinds
 use Rattle.compiler.proofs.searching.+search.Lts-search as lts
@@ -96,19 +95,11 @@ module _ (t : ℕ) where
   same-length : lts.Need-same-length (calls t) (search-at t) search′.Post Inv-loop μ-loop
   same-length c = c .before .before .before .loop .inv .2
 
-  -- nothing more is found
-  over : (l : lts.At-loop (calls t) (search-at t) search′.Post Inv-loop μ-loop) {p : Point}
-      → let s = l .before .before in
-      Underway (putting (s .args .last)) (s .args .operator) (now (s .args .plan)) (s .args .count) (toZ w64 (ofZ w64 (s .args .value))) p (s .args .at, now (s .args .words)) (s .args .rank)
-      (l .loop .after, l .loop .words) (l .loop .left)
-      → found p (l .loop .left) ≡ [] → SetsPut (s .args .last) (s .args .at) (now (s .args .words)) (found p (s .args .rank)) (l .loop .after) (l .loop .words)
-  over l u e = let x = ended u e in record { number = ap (λ (y : Put). y .0) x; written = ap (λ (y : Put). y .1) x }
-
   returns : lts.Need-returns (calls t) (search-at t) search′.Post Inv-loop μ-loop
   returns c p h e =
       let l = c .before .before in
       let u = at l .loop .inv .3 p (read-back h (first l .fits .value)) e in
-      over (at l) u (nothing-found (l .loop-test .taken) (u .here) (sym (c .before .can-reach .ensures p (u .here)) ∙ not-true _ (c .if1 .taken)))
+      put-ended u (nothing-found (l .loop-test .taken) (u .here) (sym (c .before .can-reach .ensures p (u .here)) ∙ not-true _ (c .if1 .taken)))
 
   next-value-requires : lts.Need-next-value-requires (calls t) (search-at t) search′.Post Inv-loop μ-loop
   next-value-requires c κs = let l = c .before .before in (omega (arith, few l), next-small (l .loop-test .taken) (asked l .here))
@@ -127,11 +118,10 @@ module _ (t : ℕ) where
         Trying (a .operator) (now (a .plan)) (a .count) (toZ w64 (ofZ w64 (a .value))) (at turn .loop .left) (toZ w64 (ofZ w64 (c .before .next-value .result)))
     trying =
         let v = c .before in
-        let fits : SFits w64 (v .next-value .result) = search needs in
         record {
           some = turn .loop-test .taken;
           reaches = λ p h. sym (v .before .before .can-reach .ensures p h) ∙ not-false _ (v .before .if1 .left);
-          valued = toZ-ofZ w64 (v .next-value .result) fits ∙ v .next-value .ensures;
+          valued = toZ-ofZ w64 (v .next-value .result) (search needs) ∙ v .next-value .ensures;
         }
 
     -- its mask
@@ -222,7 +212,7 @@ module _ (t : ℕ) where
   returns-2 : lts.Need-returns-2 (calls t) (search-at t) search′.Post Inv-loop μ-loop
   returns-2 c p h e =
       let l = c .before in
-      over l (l .loop .inv .3 p (read-back h (l .before .before .fits .value)) e) (found-none p (l .loop .left) (c .loop-test .left))
+      put-ended (l .loop .inv .3 p (read-back h (l .before .before .fits .value)) e) (found-none p (l .loop .left) (c .loop-test .left))
 
 pub +search-spec : {M : Type 1} → statement M
 +search-spec =

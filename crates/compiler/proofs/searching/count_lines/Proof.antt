@@ -5,7 +5,7 @@ use borrow.Author.Needs.{needs}
 use denote.Ref.{now}
 use lib.ListN.{length}
 use mir.Syntax.{w32, w64}
-use mir.Val.{SFits, toZ, ofZ}
+use mir.Val.{toZ, ofZ}
 use mir.ValLaws.{toZ-ofZ}
 use Rattle.peal.specs.Policies.{Rule}
 use Rattle.book.specs.Ranges.{PolicyKept}
@@ -40,9 +40,8 @@ begins c h =
     let n = c .before in
     let o = n .before in
     let p = o .before in
-    let fits : SFits w64 (c .initial .result) = search needs in
     begun h (n .count-at .ensures (h .policy) (h .held)) (back (p .before)) (p .planned .ensures h) (o .operator-at .ensures (h .policy) (h .held))
-    (toZ-ofZ w64 (c .initial .result) fits ∙ c .initial .ensures)
+    (toZ-ofZ w64 (c .initial .result) (search needs) ∙ c .initial .ensures)
 
 count-found-requires : tie.Need-count-found-requires
 count-found-requires c κs = (_, begins (c .before) (c .before .before .before .before .before .pre .0))

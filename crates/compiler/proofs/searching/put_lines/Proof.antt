@@ -7,7 +7,7 @@ use borrow.Author.Needs.{needs}
 use denote.Ref.{now}
 use lib.ListN.{length}
 use mir.Syntax.{w32, w64}
-use mir.Val.{SFits, toZ, ofZ}
+use mir.Val.{toZ, ofZ}
 use mir.ValLaws.{toZ-ofZ}
 use Rattle.layout.specs.Nodes.{lineRecords}
 use Rattle.layout.specs.Writing.{putRecords}
@@ -55,9 +55,8 @@ module _ (c : tie.After-initial) where
     begins : Searching (count .before .operator-at .result) (count .before .before .planned .result) 0 (toZ w64 (ofZ w64 (c .initial .result))) (count .count-at .result) p
     begins =
         let o = count .before in
-        let fits : SFits w64 (c .initial .result) = search needs in
         begun (h .kept) all (back start) (o .before .planned .ensures (h .kept)) (o .operator-at .ensures (h .kept .policy) (h .kept .held))
-        (toZ-ofZ w64 (c .initial .result) fits ∙ c .initial .ensures)
+        (toZ-ofZ w64 (c .initial .result) (search needs) ∙ c .initial .ensures)
 
     finds : found p (count .count-at .result) ≡ linesOf (start .args .threshold) (h .kept .policy)
     finds = found-lines (h .kept) all (start .args .threshold)
