@@ -1,11 +1,12 @@
 -- A turn of the search, whatever is done with the sets that are found.
 use Prim.Native.Nat.{ℕ, _+_, _-_, _≤_, _<_}
-use mathlib.Core.Bool.{Bool, true, false}
+use mathlib.Core.Bool.{Bool, true, false, not}
 use mathlib.Core.List.{List, [], _∷_, _++_, map, map-append}
 use mathlib.Core.Path.{_≡_, refl, sym, ap, _∙_}
 use native.Mathlib.Nat.{add-zero}
 use native.Mathlib.Omega.{arith}
 use lib.IntN.{ℤ}
+use borrow.Author.Tests.{not-false}
 use lib.ListN.{length, length-append, length-map}
 use Rattle.layout.specs.Nodes.{lineRecords}
 use Rattle.layout.specs.Writing.{putRecord, putRecords, lineRecord, linesUpTo}
@@ -36,6 +37,10 @@ pub record Trying (o : Operator) (plan : List ℤ) (count : ℕ) (value : ℤ) (
   pub some : 0 < left
   pub reaches : ForPoints o plan count value left (λ p. having p (allAt p left) ≡ true)
   pub valued : v ≡ combinedOf o value (planScore plan left)
+
+pub tries : {o : Operator} {plan : List ℤ} {count : ℕ} {value : ℤ} {left : ℕ} {b : Bool} {v : ℤ} → 0 < left → ForPoints o plan count value left (λ p. b ≡ having p (allAt p left))
+    → not b ≡ false → v ≡ combinedOf o value (planScore plan left) → Trying o plan count value left v
+tries some told e valued = record { some = some; reaches = λ p h. sym (told p h) ∙ not-false _ e; valued = valued }
 
 -- the point with that rule
 pub taken : {o : Operator} {plan : List ℤ} {count : ℕ} {value : ℤ} {left : ℕ} {v : ℤ} {p : Point} → Trying o plan count value left v → Searching o plan count value left p

@@ -3,7 +3,7 @@ use Prim.Native.Nat.{ℕ, _+_, _<_, _≤_}
 use mathlib.Core.Path.{_≡_, refl, sym, ap, _∙_}
 use native.Mathlib.Omega.{arith}
 use borrow.Author.Needs.{needs}
-use borrow.Author.Tests.{not-true, not-false}
+use borrow.Author.Tests.{not-true}
 use borrow.Fn.Kinds.{In}
 use borrow.Fn.PlainCycle.{Measures, is, falls, and}
 use denote.Ref.{now}
@@ -18,7 +18,7 @@ use Rattle.compiler.specs.Searching.{Point, taking, found, Searching, pu
 use Rattle.compiler.proofs.RoomLaws.{room-part}
 use Rattle.compiler.proofs.PointLaws.{taken-few, read-back, none-coming, next-small, next-mask, bit-fits}
 use Rattle.compiler.proofs.FoundLaws.{nothing-found, found-none}
-use Rattle.compiler.proofs.SearchTurns.{Underway, Trying, taken, one-room, one-done, more-room, more-done, putting, put-one, put-ended}
+use Rattle.compiler.proofs.SearchTurns.{Underway, Trying, tries, taken, one-room, one-done, more-room, more-done, putting, put-one, put-ended}
 use Rattle.compiler.proofs.searching.search.Reads as search′
 use Rattle.compiler.proofs.searching.search.Kinds as search-kinds
 use Rattle.compiler.proofs.searching.+search.Lts-search as lts
@@ -118,11 +118,7 @@ module _ (t : ℕ) where
         Trying (a .operator) (now (a .plan)) (a .count) (toZ w64 (ofZ w64 (a .value))) (at turn .loop .left) (toZ w64 (ofZ w64 (c .before .next-value .result)))
     trying =
         let v = c .before in
-        record {
-          some = turn .loop-test .taken;
-          reaches = λ p h. sym (v .before .before .can-reach .ensures p h) ∙ not-false _ (v .before .if1 .left);
-          valued = toZ-ofZ w64 (v .next-value .result) (search needs) ∙ v .next-value .ensures;
-        }
+        tries (turn .loop-test .taken) (v .before .before .can-reach .ensures) (v .before .if1 .left) (toZ-ofZ w64 (v .next-value .result) (search needs) ∙ v .next-value .ensures)
 
     -- its mask
     masked : {p : Point} → let a = first turn .args in
