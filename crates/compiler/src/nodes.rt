@@ -105,8 +105,8 @@ fn next_lines(cells: &book::Cells, n: usize, lines: &LineCounts, i: usize) -> us
     node_lines(cells, n, i)
 }
 
-// How many records the listing of condition n has, those of the exclusions among them. Into `lines`, how many lines each
-// node has.
+// How many records the listing of condition n has, those of the exclusions among them. Into `lines`, how many lines
+// each node has.
 pub fn count_records(cells: &book::Cells, n: usize, lines: &mut LineCounts) -> usize
     requires { ⌜ ConditionKept (now cells) n ⌝ }
     ensures { λ r. ⌜ RecordsCounted (now (cells .entry)) n r (now (lines .exit)) ⌝ }

@@ -10,7 +10,8 @@ ghost use Rattle.compiler.specs.Worth.{initial as initialOf, clamped as 
 ghost use Rattle.compiler.specs.Planning.{ThresholdFits, withRow, PlanKept};
 
 // The plan has a row of four cells for each number k of rules, none too. First stands the limit of the sets of k rules;
-// after it, at these places, the operator over the k rules of lowest rank, and the score and the bit of the first of these.
+// after it, at these places, the operator over the k rules of lowest rank, and the score and the bit of the first of
+// these.
 pub const ROW: usize = 4;
 
 pub const REST: usize = 1;

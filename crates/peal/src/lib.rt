@@ -1,5 +1,5 @@
-// The published language: the operators of policies and the senses of conditions; and an operator over two scores, for the
-// crates above.
+// The published language: the operators of policies and the senses of conditions. For the crates above, by which scores
+// an operator ranks, and the operator over two scores.
 ghost use mathlib.Core.Path.{_≡_};
 ghost use Prim.Native.Nat.{_^_, _≤_};
 ghost use lib.Signed.{mag};
@@ -32,7 +32,8 @@ pub fn rises(o: Operator) -> bool
     }
 }
 
-// The operator over two scores; in mul the bare product. For the crates above only, which have scores in range: the result fits.
+// The operator over two scores; in mul the bare product. For the crates above only, which have scores in range: the
+// result fits.
 pub fn combined(o: Operator, v: i64, w: i64) -> i64
     requires { ⌜ mag (combinedOf o v w) ≤ 10 ^ 16 ⌝ }
     ensures { λ r. ⌜ r ≡ combinedOf o v w ⌝ }

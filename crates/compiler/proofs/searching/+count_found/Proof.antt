@@ -1,6 +1,6 @@
 -- `compiler::searching::count_found`: what is left to be found is all that is left to be counted; each call has fewer rules to come.
 use Prim.Native.Nat.{ℕ, _+_, _-_, _<_, _≤_}
-use mathlib.Core.Path.{_≡_, refl, sym, ap, _∙_}
+use mathlib.Core.Path.{refl, sym, ap, _∙_}
 use native.Mathlib.Nat.{zero-add}
 use native.Mathlib.Omega.{arith}
 use borrow.Author.Needs.{needs}
@@ -8,11 +8,10 @@ use borrow.Author.Tests.{not-true}
 use borrow.Fn.Kinds.{In}
 use borrow.Fn.PlainCycle.{Measures, is, falls, and}
 use denote.Ref.{now}
-use lib.ListN.{length}
 use mir.Syntax.{w64}
 use mir.Val.{toZ, ofZ}
 use mir.ValLaws.{toZ-ofZ}
-use Rattle.compiler.specs.Searching.{Point, taking, found, Searching}
+use Rattle.compiler.specs.Searching.{Point, Searching}
 use Rattle.compiler.proofs.PointLaws.{taken-few, read-back, none-coming, next-small}
 use Rattle.compiler.proofs.FoundLaws.{nothing-found, found-none, found-few}
 use Rattle.compiler.proofs.SearchTurns.{Underway, Trying, tries, taken, ended, one-room, one-done, more-room, more-done, counting}
