@@ -22,8 +22,13 @@ use Rattle.book.proofs.MentionedPolicies.{mention-below}
 use Rattle.book.proofs.CellLaws.{condition-held, condition-range, same-codes, mention-held, mention-kept}
 use Rattle.compiler.specs.Planning.{ThresholdFits}
 use Rattle.compiler.specs.Searching.{linesOf, LinesKept}
-use Rattle.compiler.specs.Nodes.{linesIn, listedNode, nodesOf, nodeAt}
+use Rattle.compiler.specs.Nodes.{linesIn, nodesOf, nodeAt}
 use Rattle.compiler.proofs.MentionLaws.{kept-few}
+
+-- what a node of a condition's expression becomes
+unfoldable listedNode : Book → Condition → Node MinMax ℕ → ListedNode
+listedNode b c (value n) = value (listed (c .sense) (c .threshold) (policyAt (b .policies) n))
+listedNode b c (joining m) = joining (joinOf (c .sense) m)
 
 -- the nodes of the listing are those of the expression
 module _ (b : Book) (c : Condition) where
@@ -41,6 +46,11 @@ module _ (b : Book) (c : Condition) where
   nodes-listed : nodesOf b c ≡ map (listedNode b c) (postfix (c .expression))
   unfolding nodesOf translated
   nodes-listed = listed-tree (c .expression)
+
+  node-listed : (i : ℕ) → nodeAt b c i ≡ listedNode b c (nodeOf (c .expression) i)
+  unfolding nodeAt listedNode
+  node-listed i =
+      ap (λ (l : List ListedNode). getD l i (listedNode b c (joining smaller))) nodes-listed ∙ List·getD-map (listedNode b c) (postfix (c .expression)) i (joining smaller)
 
 module _ {cells : List ℤ} {n : ℕ} (k : ConditionKept cells n) where
   abbrev nodes : List ListedNode
@@ -64,12 +74,7 @@ module _ {cells : List ℤ} {n : ℕ} (k : ConditionKept cells n) where
 
   pub node-here : (i : ℕ) → i < size → drop i nodes ≡ nodeAt (k .book) (k .condition) i ∷ drop (i + 1) nodes
   unfolding nodeAt
-  node-here i h =
-      let f = listedNode (k .book) (k .condition) in
-      drop-cons nodes i (f (joining smaller)) (omega (arith, nodes-count))
-      ∙ ap₂ (λ (x : ListedNode) (m : ℕ). x ∷ drop m nodes)
-      (ap (λ (l : List ListedNode). getD l i (f (joining smaller))) (nodes-listed (k .book) (k .condition)) ∙ List·getD-map f (postfix (k .condition .expression)) i (joining smaller))
-      (sym (add-one i))
+  node-here i h = rw (add-one i) (drop-cons nodes i _ (omega (arith, nodes-count)))
 
   pub threshold-fits : (t : ℤ) → t ≡ k .condition .threshold → ThresholdFits t
   threshold-fits t same = subst ThresholdFits (sym same) (condition-range k .threshold)
@@ -86,12 +91,12 @@ module _ {cells : List ℤ} {n : ℕ} (k : ConditionKept cells n) where
     code-of = told ∙ code-node (k .condition .expression) i
 
     pub join-here : code < 2 → (s : Sense) → s ≡ k .condition .sense → (m : MinMax) × (code ≡ codeOf (joining m)) × (thisNode ≡ joining (joinOf s m))
-    unfolding nodeAt listedNode
+    unfolding listedNode
     join-here l s same =
         let j = join-code node (omega (arith, code-of)) in (
           j .0,
           code-of ∙ ap codeOf (j .1),
-          ap (listedNode (k .book) (k .condition)) (j .1) ∙ ap (λ (x : Sense). joining (joinOf x (j .0))) (sym same),
+          node-listed (k .book) (k .condition) i ∙ ap (listedNode (k .book) (k .condition)) (j .1) ∙ ap (λ (x : Sense). joining (joinOf x (j .0))) (sym same),
         )
 
     pub no-lines : code < 2 → linesIn thisNode ≡ 0
@@ -104,10 +109,10 @@ module _ {cells : List ℤ} {n : ℕ} (k : ConditionKept cells n) where
       mentioned = policyAt (k .book .policies) (code - 2)
 
       pub mention-here : (s : Sense) (t : ℤ) → s ≡ k .condition .sense → t ≡ k .condition .threshold → thisNode ≡ value (listed s t mentioned)
-      unfolding nodeAt listedNode
+      unfolding listedNode
       mention-here s t e f =
           let d = k .condition in
-          ap (listedNode (k .book) d) (value-code node (omega (arith, code-of)))
+          node-listed (k .book) d i ∙ ap (listedNode (k .book) d) (value-code node (omega (arith, code-of)))
           ∙ ap (λ (m : ℕ). value (listed (d .sense) (d .threshold) (policyAt (k .book .policies) (m - 2)))) (sym code-of)
           ∙ ap₂ (λ (x : Sense) (y : ℤ). value (listed x y mentioned)) (sym e) (sym f)
 

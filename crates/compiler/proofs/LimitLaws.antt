@@ -1,7 +1,7 @@
 -- The limits of sets of rules: how large they are, and the next one.
 use Prim.Native.Nat.{ℕ, zero, suc, _+_, _*_, _^_, _≤_}
 use mathlib.Core.Bool.{Bool, true, false, cond}
-use mathlib.Core.Path.{_≡_, refl, sym, ap, subst, _∙_}
+use mathlib.Core.Path.{_≡_, refl, sym, ap, _∙_}
 use native.Mathlib.Nat.{pow-suc, mul-le-mul-right, pow-le-pow-right}
 use native.Mathlib.Numerals.{add-one}
 use native.Mathlib.Omega.{arith}
@@ -54,17 +54,13 @@ limit-small Mul t k h r = omega (arith, clamped-times t (100 ^ k), power k (r re
 
 -- ---- the next limit
 
-module _ (o : Operator) where
-  pub next-hundredfold : o ≡ Mul → (limit t : ℤ) (k : ℕ) → limit ≡ limitOf o t k → limit *ℤ pos 100 ≡ limitOf o t (k + 1)
-  unfolding limitOf
-  next-hundredfold m limit t k e =
-      let h : 100 ^ k * 100 ≡ 100 ^ (k + 1) = sym (pow-suc 100 k) ∙ ap (λ (j : ℕ). 100 ^ j) (sym (add-one k)) in
-      ap (λ (z : ℤ). z *ℤ pos 100) (e ∙ ap (λ (x : Operator). limitOf x t k) m)
-      ∙ scale-scale (clamped t) (100 ^ k) 100 ∙ ap (λ (n : ℕ). clamped t *ℤ pos n) h
-      ∙ ap (λ (x : Operator). limitOf x t (k + 1)) (sym m)
-
-  pub next-same : (p : Operator) → o ≡ p → ((t : ℤ) (k : ℕ) → limitOf p t k ≡ limitOf p t (k + 1)) → (limit t : ℤ) (k : ℕ) → limit ≡ limitOf o t k → limit ≡ limitOf o t (k + 1)
-  next-same p m f limit t k e = e ∙ subst (λ (x : Operator). limitOf x t k ≡ limitOf x t (k + 1)) (sym m) (f t k)
+pub next-hundredfold : (o : Operator) → o ≡ Mul → (limit t : ℤ) (k : ℕ) → limit ≡ limitOf o t k → limit *ℤ pos 100 ≡ limitOf o t (k + 1)
+unfolding limitOf
+next-hundredfold o m limit t k e =
+    let h : 100 ^ k * 100 ≡ 100 ^ (k + 1) = sym (pow-suc 100 k) ∙ ap (λ (j : ℕ). 100 ^ j) (sym (add-one k)) in
+    ap (λ (z : ℤ). z *ℤ pos 100) (e ∙ ap (λ (x : Operator). limitOf x t k) m)
+    ∙ scale-scale (clamped t) (100 ^ k) 100 ∙ ap (λ (n : ℕ). clamped t *ℤ pos n) h
+    ∙ ap (λ (x : Operator). limitOf x t (k + 1)) (sym m)
 
 -- ---- the code's tests
 

@@ -2,19 +2,18 @@
 use Prim.Native.Nat.{ℕ, _+_, _-_, _≤_}
 use mathlib.Core.Bool.{Bool, cond}
 use mathlib.Core.List.{List, map}
-use mathlib.Core.Path.{_≡_, sym, ap, subst, _∙_}
+use mathlib.Core.Path.{_≡_, refl, sym, ap, subst, _∙_}
 use native.Mathlib.Omega.{arith}
 use lib.Dec.{ltb}
 use lib.IntN.{ℤ}
 use lib.ListN.{length, length-map}
 use Rattle.arith.specs.Trees.{value, joining}
-use Rattle.layout.specs.Records.{Record, joinKind, policyKind}
+use Rattle.layout.specs.Records.{Record, policyKind}
 use Rattle.layout.specs.Nodes.{lineRecords}
 use Rattle.layout.specs.Writing.{putRecord, putRecords}
 use Rattle.peal.specs.Policies.{Policy, MinMax, smaller, larger, maskOf}
-use Rattle.translation.specs.Translation.{joinOf, quiet, turned, listed}
+use Rattle.translation.specs.Translation.{quiet, turned, listed}
 use Rattle.peal.specs.declared.Sense.{Sense}
-use Rattle.peal.specs.declared.Sense.the-variants.{Above, AtMost}
 use Rattle.peal.proofs.LineLaws.{lines-are-few}
 use Rattle.text.specs.Codes.{codeOf}
 use Rattle.book.proofs.RangeLaws.{rules-at-most}
@@ -25,15 +24,16 @@ use Rattle.compiler.proofs.NodeLaws.{if-any}
 
 -- ---- the kind
 
-pub above-kind : (m : MinMax) (code : ℕ) → code ≡ codeOf (joining m) → 2 + code ≡ joinKind (joinOf Above m)
-unfolding codeOf joinKind joinOf
-above-kind smaller code e = omega arith
-above-kind larger code e = omega arith
+-- max has code 1, and min another
+pub is-larger : (m : MinMax) {code : ℕ} → code ≡ codeOf (joining m) → code ≡ 1 → m ≡ larger
+unfolding codeOf
+is-larger smaller e h = absurd (omega arith)
+is-larger larger e h = refl
 
-pub at-most-kind : (m : MinMax) (code : ℕ) → code ≡ codeOf (joining m) → 3 - code ≡ joinKind (joinOf AtMost m)
-unfolding codeOf joinKind joinOf
-at-most-kind smaller code e = omega arith
-at-most-kind larger code e = omega arith
+pub is-smaller : (m : MinMax) {code : ℕ} → code ≡ codeOf (joining m) → (code ≡ 1 → ⊥) → m ≡ smaller
+unfolding codeOf
+is-smaller smaller e h = refl
+is-smaller larger e h = absurd (h e)
 
 -- ---- a mention, from the numbers that the code has
 

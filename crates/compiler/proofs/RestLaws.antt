@@ -25,7 +25,7 @@ use Rattle.book.specs.declared.cells.Policy.{Policy as StoredPolicy}
 use Rattle.book.proofs.StoredRules.{count-is, signal-at, score-at}
 use Rattle.book.proofs.ScoreSizes.{score-mag, InScore, InRange, Room}
 use Rattle.compiler.specs.Worth.{initial, worth}
-use Rattle.compiler.specs.Planning.{restOf, nextRule, RulesInRange, RulesKept}
+use Rattle.compiler.specs.Planning.{restOf, nextRule, RulesInRange}
 use Rattle.compiler.proofs.WorthLaws.{product-worth}
 
 -- ---- how large the worth of rules is
@@ -107,9 +107,6 @@ range-rest o rules k h =
 pub next-signal : (q : Policy) (k : ℕ) → 0 < k → k ≤ length (q .rules) → RulesInRange (q .operator) (q .rules) → nextRule q k .signal < 16
 unfolding nextRule
 next-signal q k some inside h = each-get (λ (r : Rule). r .signal < 16) (q .rules) (length (q .rules) - k) noRule (h .signals) (omega arith)
-
-pub kept-room : {p : StoredPolicy} → RulesKept p → p .count ≤ 16
-kept-room {p} h = omega (arith, count-is p (h .policy) (h .held), h .range .few)
 
 -- ---- the first of the k rules of lowest rank, as a stored policy has it
 

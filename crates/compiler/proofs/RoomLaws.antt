@@ -7,17 +7,16 @@ use lib.ListN.{length}
 use borrow.Author.Tests.{le-leb, lt-leb}
 use Rattle.answers.specs.Answers.{result, refused}
 use Rattle.layout.specs.Records.{Record, words}
-use Rattle.layout.specs.Writing.{putRecords}
+use Rattle.layout.specs.Writing.{RoomFor, putRecords}
 use Rattle.layout.proofs.WordLaws.{length-words}
 use Rattle.layout.proofs.WritingLaws.{put-first}
 use Rattle.compiler.specs.Compiling.{fitting, returned, lentAfter}
-use Rattle.compiler.specs.Room.{RoomFor}
 
 -- ---- a part of the records that have room
 
-pub room-part : {first count : ℕ} {words : List ℕ} → RoomFor first count words → (n m : ℕ) → 0 < n → n + m ≤ first + count → {later : List ℕ} → length later ≡ length words
+pub room-part : {first count : ℕ} {lent : List ℕ} → RoomFor first count lent → (n m : ℕ) → 0 < n → n + m ≤ first + count → {later : List ℕ} → length later ≡ length lent
     → RoomFor n m later
-room-part h n m some inside same = record { begins = some; numbers = omega (arith, h .numbers); inside = omega (arith, h .begins, h .inside) }
+room-part h n m some inside same = record { begins = some; numbers = omega (arith, h .numbers); room = omega (arith, h .begins, h .room) }
 
 -- ---- the answers
 

@@ -1,5 +1,5 @@
 -- The rows of a plan, written one after the other.
-use Prim.Native.Nat.{ℕ, _+_, _*_, _^_, _≤_, _<_}
+use Prim.Native.Nat.{ℕ, _+_, _^_, _≤_, _<_}
 use mathlib.Core.List.{List, [], _∷_}
 use mathlib.Core.Logic.{⊎-elim}
 use mathlib.Core.Path.{_≡_, refl, sym, ap, subst, _∙_}
@@ -16,7 +16,7 @@ use Rattle.peal.specs.Policies.{Policy}
 use Rattle.peal.specs.Combining.{combinedOf}
 use Rattle.peal.specs.declared.Operator.{Operator}
 use Rattle.compiler.specs.Worth.{initial, worth, limitOf, NextLimit}
-use Rattle.compiler.specs.Planning.{restOf, nextRule, RulesInRange, withRow, Row}
+use Rattle.compiler.specs.Planning.{restOf, nextRule, RulesInRange, rowFrom, restCell, nextScoreCell, nextBitCell, withRow, Row}
 use Rattle.compiler.proofs.RestLaws.{worth-small, rest-initial, rest-next, range-rest}
 
 module _ (plan : List ℤ) (k : ℕ) (limit rest score bit : ℤ) where
@@ -28,37 +28,37 @@ module _ (plan : List ℤ) (k : ℕ) (limit rest score bit : ℤ) where
 
   row-length : length later ≡ length plan
   unfolding withRow
-  row-length = length-sets plan (k * 4) row
+  row-length = length-sets plan (rowFrom k) row
 
   -- the rows before it stay
-  row-before : (m : ℕ) → m < k * 4 → getD later m (pos 0) ≡ getD plan m (pos 0)
+  row-before : (m : ℕ) → m < rowFrom k → getD later m (pos 0) ≡ getD plan m (pos 0)
   unfolding withRow
-  row-before m h = before-row row plan (k * 4) m (pos 0) h
+  row-before m h = before-row row plan (rowFrom k) m (pos 0) h
 
   module _ (q : Policy) (t : ℤ) where
     kept : (j : ℕ) → j < k → Row plan q t j → Row later q t j
     kept j h r =
         record {
-          limit = row-before (j * 4) (omega arith) ∙ r .limit;
-          rest = row-before (j * 4 + 1) (omega arith) ∙ r .rest;
-          score = λ s. row-before (j * 4 + 2) (omega arith) ∙ r .score s;
-          bit = λ s. row-before (j * 4 + 3) (omega arith) ∙ r .bit s;
+          limit = row-before (rowFrom j) (omega arith) ∙ r .limit;
+          rest = row-before (restCell j) (omega arith) ∙ r .rest;
+          score = λ s. row-before (nextScoreCell j) (omega arith) ∙ r .score s;
+          bit = λ s. row-before (nextBitCell j) (omega arith) ∙ r .bit s;
         }
 
-    module _ (room : k * 4 + 3 < length plan) (limit-is : limit ≡ limitOf (q .operator) t k) (rest-is : rest ≡ worth (q .operator) (restOf k (q .rules)))
+    module _ (room : nextBitCell k < length plan) (limit-is : limit ≡ limitOf (q .operator) t k) (rest-is : rest ≡ worth (q .operator) (restOf k (q .rules)))
         (score-is : 0 < k → score ≡ nextRule q k .score) (bit-is : 0 < k → bit ≡ pos (setOf (nextRule q k .signal ∷ []))) where
       -- cell i of the row
-      cell : (i j : ℕ) → j ≡ k * 4 + i → i < 4 → getD later j (pos 0) ≡ getD row i (pos 0)
+      cell : (i j : ℕ) → j ≡ rowFrom k + i → i < 4 → getD later j (pos 0) ≡ getD row i (pos 0)
       unfolding withRow
-      cell i j e h = in-row row plan (k * 4) i j (pos 0) e h (omega arith)
+      cell i j e h = in-row row plan (rowFrom k) i j (pos 0) e h (omega arith)
 
       here : Row later q t k
       here =
           record {
-            limit = cell 0 (k * 4) (sym (add-zero (k * 4))) (omega arith) ∙ limit-is;
-            rest = cell 1 (k * 4 + 1) refl (omega arith) ∙ rest-is;
-            score = λ some. cell 2 (k * 4 + 2) refl (omega arith) ∙ score-is some;
-            bit = λ some. cell 3 (k * 4 + 3) refl (omega arith) ∙ bit-is some;
+            limit = cell 0 (rowFrom k) (sym (add-zero (rowFrom k))) (omega arith) ∙ limit-is;
+            rest = cell 1 (restCell k) refl (omega arith) ∙ rest-is;
+            score = λ some. cell 2 (nextScoreCell k) refl (omega arith) ∙ score-is some;
+            bit = λ some. cell 3 (nextBitCell k) refl (omega arith) ∙ bit-is some;
           }
 
       -- one row more in the plan

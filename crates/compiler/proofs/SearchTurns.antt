@@ -1,11 +1,12 @@
 -- A turn of the search, whatever is done with the sets that are found.
 use Prim.Native.Nat.{ℕ, _+_, _-_, _≤_, _<_}
-use mathlib.Core.Bool.{Bool, true, false}
+use mathlib.Core.Bool.{Bool, true, false, not}
 use mathlib.Core.List.{List, [], _∷_, _++_, map, map-append}
 use mathlib.Core.Path.{_≡_, refl, sym, ap, _∙_}
 use native.Mathlib.Nat.{add-zero}
 use native.Mathlib.Omega.{arith}
 use lib.IntN.{ℤ}
+use borrow.Author.Tests.{not-false}
 use lib.ListN.{length, length-append, length-map}
 use Rattle.layout.specs.Nodes.{lineRecords}
 use Rattle.layout.specs.Writing.{putRecord, putRecords, lineRecord, linesUpTo}
@@ -13,9 +14,9 @@ use Rattle.layout.proofs.WritingLaws.{put-lines-append, lines-up-to}
 use Rattle.peal.specs.Policies.{Rule, maskOf}
 use Rattle.peal.specs.Combining.{combinedOf}
 use Rattle.peal.specs.declared.Operator.{Operator}
-use Rattle.compiler.specs.Planning.{scoreIn}
-use Rattle.compiler.specs.Searching.{Point, having, allAt, taking, found, Searching, ForPoints, putSets}
-use Rattle.compiler.proofs.PointLaws.{none-coming, left-out, taken-in}
+use Rattle.compiler.specs.Planning.{planScore}
+use Rattle.compiler.specs.Searching.{Point, having, allAt, taking, found, Searching, ForPoints, putSets, SetsPut}
+use Rattle.compiler.proofs.PointLaws.{none-coming, fewer-coming, taken-in}
 use Rattle.compiler.proofs.FoundLaws.{tried, tried-itself, tried-further, found-further}
 
 -- what is done with sets, one after the other, and the number that comes next
@@ -35,7 +36,11 @@ pub record Underway {A : Type 0} (d : Doing A) (o : Operator) (plan : List ℤ) 
 pub record Trying (o : Operator) (plan : List ℤ) (count : ℕ) (value : ℤ) (left : ℕ) (v : ℤ) : Type 0 where
   pub some : 0 < left
   pub reaches : ForPoints o plan count value left (λ p. having p (allAt p left) ≡ true)
-  pub valued : v ≡ combinedOf o value (scoreIn plan left)
+  pub valued : v ≡ combinedOf o value (planScore plan left)
+
+pub tries : {o : Operator} {plan : List ℤ} {count : ℕ} {value : ℤ} {left : ℕ} {b : Bool} {v : ℤ} → 0 < left → ForPoints o plan count value left (λ p. b ≡ having p (allAt p left))
+    → not b ≡ false → v ≡ combinedOf o value (planScore plan left) → Trying o plan count value left v
+tries some told e valued = record { some = some; reaches = λ p h. sym (told p h) ∙ not-false _ e; valued = valued }
 
 -- the point with that rule
 pub taken : {o : Operator} {plan : List ℤ} {count : ℕ} {value : ℤ} {left : ℕ} {v : ℤ} {p : Point} → Trying o plan count value left v → Searching o plan count value left p
@@ -74,7 +79,7 @@ module _ {A : Type 0} {d : Doing A} {o : Operator} {plan : List ℤ} {count : �
     passed : {F : List (List Rule)} → tried next (left - 1) ≡ F → {x : A} → x ≡ d .run a F → Underway d o plan count value p begun rank x (left - 1)
     passed e f =
         record {
-          here = left-out (t .some) (u .here);
+          here = fewer-coming (u .here) (left - 1) (omega arith);
           leads =
               ap (λ (y : A). d .run y (found p (left - 1))) (f ∙ ap (d .run a) (sym e))
               ∙ sym (ap (d .run a) further ∙ d .append a (tried next (left - 1)) (found p (left - 1))) ∙ u .leads;
@@ -112,16 +117,16 @@ counting = record { run = λ n F. n + length F; number = λ n. n; none = add-zer
 
 -- ---- they are put as lines
 
-pub put-append : (last n : ℕ) (words : List ℕ) (F G : List (List Rule)) → putSets last words n (F ++ G) ≡ putSets last (putSets last words n F) (n + length F) G
+pub put-append : (last n : ℕ) (before : List ℕ) (F G : List (List Rule)) → putSets last before n (F ++ G) ≡ putSets last (putSets last before n F) (n + length F) G
 unfolding putSets
-put-append last n words F G =
-    ap (λ (l : List ℕ). putRecords words n (linesUpTo last n l)) (map-append maskOf F G)
-    ∙ put-lines-append last n (map maskOf F) (map maskOf G) words
-    ∙ ap (λ (k : ℕ). putRecords (putRecords words n (linesUpTo last n (map maskOf F))) (n + k) (linesUpTo last (n + k) (map maskOf G))) (length-map F maskOf)
+put-append last n before F G =
+    ap (λ (l : List ℕ). putRecords before n (linesUpTo last n l)) (map-append maskOf F G)
+    ∙ put-lines-append last n (map maskOf F) (map maskOf G) before
+    ∙ ap (λ (k : ℕ). putRecords (putRecords before n (linesUpTo last n (map maskOf F))) (n + k) (linesUpTo last (n + k) (map maskOf G))) (length-map F maskOf)
 
-pub put-none : (last n : ℕ) (words : List ℕ) → putSets last words n [] ≡ words
+pub put-none : (last n : ℕ) (before : List ℕ) → putSets last before n [] ≡ before
 unfolding putSets linesUpTo putRecords
-put-none last n words = refl
+put-none last n before = refl
 
 -- the record that comes next, and the words
 abbrev pub Put : Type 0
@@ -137,12 +142,17 @@ putting last =
       counts = λ a F. refl;
     }
 
+-- nothing more is found
+pub put-ended : {last : ℕ} {o : Operator} {plan : List ℤ} {count : ℕ} {value : ℤ} {p : Point} {at : ℕ} {before : List ℕ} {rank next : ℕ} {after : List ℕ} {left : ℕ}
+    → Underway (putting last) o plan count value p (at, before) rank (next, after) left → found p left ≡ [] → SetsPut last at before (found p rank) next after
+put-ended u e = let x = ended u e in record { number = ap (λ (y : Put). y .0) x; written = ap (λ (y : Put). y .1) x }
+
 -- the line of one set
-pub put-one : (last n : ℕ) (words : List ℕ) (X : List Rule) {mask : ℕ} → mask ≡ maskOf X → putRecord words n (lineRecord last n mask) ≡ putSets last words n (X ∷ [])
+pub put-one : (last n : ℕ) (before : List ℕ) (X : List Rule) {mask : ℕ} → mask ≡ maskOf X → putRecord before n (lineRecord last n mask) ≡ putSets last before n (X ∷ [])
 unfolding putSets linesUpTo putRecords
-put-one last n words X e = ap (λ (m : ℕ). putRecord words n (lineRecord last n m)) e
+put-one last n before X e = ap (λ (m : ℕ). putRecord before n (lineRecord last n m)) e
 
 -- all sets, where the last of them is record `last`
-pub put-all : (last n : ℕ) (words : List ℕ) (F : List (List Rule)) → n + length F ≡ last + 1 → putSets last words n F ≡ putRecords words n (lineRecords n (map maskOf F))
+pub put-all : (last n : ℕ) (before : List ℕ) (F : List (List Rule)) → n + length F ≡ last + 1 → putSets last before n F ≡ putRecords before n (lineRecords n (map maskOf F))
 unfolding putSets
-put-all last n words F e = ap (putRecords words n) (lines-up-to last n (map maskOf F) (ap (λ (k : ℕ). n + k) (length-map F maskOf) ∙ e))
+put-all last n before F e = ap (putRecords before n) (lines-up-to last n (map maskOf F) (ap (λ (k : ℕ). n + k) (length-map F maskOf) ∙ e))

@@ -3,6 +3,5 @@ pub mod Meaning
 pub mod Computing
 pub mod Worth
 pub mod Planning
-pub mod Room
 pub mod Searching
 pub mod Nodes

@@ -7,18 +7,17 @@ use lib.Dec.{ltb}
 use lib.IntN.{ℤ}
 use lib.ListN.{length, getD}
 use Rattle.answers.specs.Answers.{Answer}
-use Rattle.arith.specs.Trees.{Node, value, joining, postfix}
+use Rattle.arith.specs.Trees.{value, joining, postfix}
 use Rattle.layout.specs.Records.{Record, joinKind, policyKind}
 use Rattle.layout.specs.Judgement.{ifAny}
 use Rattle.layout.specs.Nodes.{ListedNode, lineRecords, nodeRecords, exclusionRecords}
-use Rattle.layout.specs.Writing.{putRecords}
-use Rattle.peal.specs.Policies.{MinMax, smaller, Condition, Book, policyAt}
-use Rattle.translation.specs.Translation.{joinOf, listed, translated, pairMask, listingRecords}
+use Rattle.layout.specs.Writing.{RoomFor, putRecords}
+use Rattle.peal.specs.Policies.{MinMax, smaller, Condition, Book}
+use Rattle.translation.specs.Translation.{joinOf, translated, pairMask, listingRecords}
 use Rattle.text.specs.Codes.{codeOf, codesOf}
-use Rattle.book.specs.Ranges.{ExclusionsKept, ConditionKept, ForAsked}
+use Rattle.book.specs.Ranges.{ExclusionsKept, ConditionKept, ForAsked, CodeKept}
 use Rattle.book.specs.Cells.{ForExclusions}
 use Rattle.compiler.specs.Compiling.{fitting, returned, lentAfter}
-use Rattle.compiler.specs.Room.{RoomFor}
 
 -- ---- the nodes of a condition
 
@@ -27,29 +26,20 @@ unfoldable pub linesIn : ListedNode → ℕ
 linesIn (value p) = length (p .lines)
 linesIn (joining j) = 0
 
--- what a node of a condition's expression becomes
-unfoldable pub listedNode : Book → Condition → Node MinMax ℕ → ListedNode
-listedNode b c (value n) = value (listed (c .sense) (c .threshold) (policyAt (b .policies) n))
-listedNode b c (joining m) = joining (joinOf (c .sense) m)
-
 -- the nodes of a condition's listing, and node i of them
 unfoldable pub nodesOf : Book → Condition → List ListedNode
 nodesOf b c = postfix (translated (b .policies) c)
 
 unfoldable pub nodeAt : Book → Condition → ℕ → ListedNode
-nodeAt b c i = listedNode b c (getD (postfix (c .expression)) i (joining smaller))
+nodeAt b c i = getD (nodesOf b c) i (joining (joinOf (c .sense) smaller))
 
 -- whether a node follows node i
 abbrev pub follows : Condition → ℕ → Bool
 follows c i = ltb (i + 1) (length (codesOf (c .expression)))
 
--- condition n has a node i
-abbrev pub NodeKept : List ℤ → (n i : ℕ) → Type 0
-NodeKept cells n i = (h : ConditionKept cells n) × (i < length (codesOf (h .condition .expression)))
-
--- it has so many lines
+-- condition n has a node i, which has so many lines
 pub record NodeCounted (cells : List ℤ) (n i count : ℕ) : Type 0 where
-  pub kept : NodeKept cells n i
+  pub kept : CodeKept cells n i
   pub lines : ForAsked cells n (λ b c. count ≡ linesIn (nodeAt b c i))
 
 -- so it is for the join that the code may be of
@@ -93,7 +83,7 @@ NodePut n more node before after = after ≡ putRecords before n (oneNode n more
 
 -- the nodes of condition n have room from record `first` on
 abbrev pub NodesFit : List ℤ → (n first : ℕ) → List ℕ → Type 0
-NodesFit cells n first words = (h : ConditionKept cells n) × RoomFor first (length (nodeRecords first (nodesOf (h .book) (h .condition)))) words
+NodesFit cells n first lent = (h : ConditionKept cells n) × RoomFor first (length (nodeRecords first (nodesOf (h .book) (h .condition)))) lent
 
 -- their records are put into the words
 abbrev pub NodesPut : List ℤ → (n first : ℕ) → (before after : List ℕ) → Type 0
@@ -101,13 +91,9 @@ NodesPut cells n first before after = ForAsked cells n (λ b c. after ≡ putRec
 
 -- ---- the exclusions
 
--- the book has an exclusion i
-abbrev pub ExclusionKept : List ℤ → ℕ → Type 0
-ExclusionKept cells i = (h : ExclusionsKept cells) × (i < length (h .exclusions))
-
 -- the exclusions have room from record 1 on
 abbrev pub ExclusionsFit : List ℤ → List ℕ → Type 0
-ExclusionsFit cells words = (h : ExclusionsKept cells) × RoomFor 1 (length (h .exclusions)) words
+ExclusionsFit cells lent = (h : ExclusionsKept cells) × RoomFor 1 (length (h .exclusions)) lent
 
 -- their records are put into the words
 abbrev pub ExclusionsPut : List ℤ → (before after : List ℕ) → Type 0

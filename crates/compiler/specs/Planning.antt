@@ -13,8 +13,9 @@ use Rattle.peal.specs.Standins.{noRule}
 use Rattle.peal.specs.declared.Operator.{Operator}
 use Rattle.peal.specs.declared.Operator.the-variants.{Mul}
 use Rattle.limits.specs.Limits.{scoreInRange, thresholdInRange}
-use Rattle.book.specs.Cells.{mostRules, storedPolicy}
-use Rattle.book.specs.declared.cells.Policy.{Policy as StoredPolicy}
+use Rattle.book.specs.Cells.{mostRules}
+use Rattle.book.specs.Ranges.{PolicyKept}
+use Rattle.ranking.specs.RankOrder.{inRankOrder}
 use Rattle.compiler.specs.Worth.{worth, limitOf}
 
 -- T is in range
@@ -36,48 +37,54 @@ pub record RulesInRange (o : Operator) (rules : List Rule) : Type 0 where
   pub few : length rules ≤ mostRules
   pub room : o ≡ Mul → length rules ≤ 8
 
--- the stored policy is that of one whose rules are in range
-pub record RulesKept (p : StoredPolicy) : Type 0 where
-  pub policy : Policy
-  pub held : p ≡ storedPolicy policy
-  pub range : RulesInRange (policy .operator) (policy .rules)
-
 -- ---- the plan: a row of four cells for each number k of rules
 
+-- where row k begins, with its limit; after it, the operator over the k rules, and the score and the bit of the first of them
+abbrev pub rowFrom : ℕ → ℕ
+rowFrom k = k * 4
+
+abbrev pub restCell : ℕ → ℕ
+restCell k = rowFrom k + 1
+
+abbrev pub nextScoreCell : ℕ → ℕ
+nextScoreCell k = rowFrom k + 2
+
+abbrev pub nextBitCell : ℕ → ℕ
+nextBitCell k = rowFrom k + 3
+
 -- the limit of the sets of k rules
-abbrev pub limitIn : List ℤ → ℕ → ℤ
-limitIn plan k = getD plan (k * 4) (pos 0)
+abbrev pub planLimit : List ℤ → ℕ → ℤ
+planLimit plan k = getD plan (rowFrom k) (pos 0)
 
 -- the operator over the k rules of lowest rank
-abbrev pub restIn : List ℤ → ℕ → ℤ
-restIn plan k = getD plan (k * 4 + 1) (pos 0)
+abbrev pub planRest : List ℤ → ℕ → ℤ
+planRest plan k = getD plan (restCell k) (pos 0)
 
 -- the score of the first of these
-abbrev pub scoreIn : List ℤ → ℕ → ℤ
-scoreIn plan k = getD plan (k * 4 + 2) (pos 0)
+abbrev pub planScore : List ℤ → ℕ → ℤ
+planScore plan k = getD plan (nextScoreCell k) (pos 0)
 
 -- its bit
-abbrev pub bitIn : List ℤ → ℕ → ℤ
-bitIn plan k = getD plan (k * 4 + 3) (pos 0)
+abbrev pub planBit : List ℤ → ℕ → ℤ
+planBit plan k = getD plan (nextBitCell k) (pos 0)
 
 -- row k written
 unfoldable pub withRow : List ℤ → ℕ → (limit rest score bit : ℤ) → List ℤ
-withRow plan k limit rest score bit = sets plan (k * 4) (limit ∷ rest ∷ score ∷ bit ∷ [])
+withRow plan k limit rest score bit = sets plan (rowFrom k) (limit ∷ rest ∷ score ∷ bit ∷ [])
 
 -- what row k holds; of no rules there is no first
 pub record Row (plan : List ℤ) (q : Policy) (t : ℤ) (k : ℕ) : Type 0 where
-  pub limit : limitIn plan k ≡ limitOf (q .operator) t k
-  pub rest : restIn plan k ≡ worth (q .operator) (restOf k (q .rules))
-  pub score : 0 < k → scoreIn plan k ≡ nextRule q k .score
-  pub bit : 0 < k → bitIn plan k ≡ pos (setOf (nextRule q k .signal ∷ []))
+  pub limit : planLimit plan k ≡ limitOf (q .operator) t k
+  pub rest : planRest plan k ≡ worth (q .operator) (restOf k (q .rules))
+  pub score : 0 < k → planScore plan k ≡ nextRule q k .score
+  pub bit : 0 < k → planBit plan k ≡ pos (setOf (nextRule q k .signal ∷ []))
 
--- the plan is that of a policy with this operator, whose rules stand in falling rank, under threshold t
-pub record PlanFor (o : Operator) (plan : List ℤ) (q : Policy) (t : ℤ) : Type 0 where
-  pub operator : o ≡ q .operator
+-- the plan is that of a policy whose rules stand in falling rank, under threshold t
+pub record PlanFor (plan : List ℤ) (q : Policy) (t : ℤ) : Type 0 where
   pub range : RulesInRange (q .operator) (q .rules)
   pub fits : ThresholdFits t
   pub rows : (k : ℕ) → k ≤ length (q .rules) → Row plan q t k
 
--- the same of a stored policy
-abbrev pub PlanOf : StoredPolicy → ℤ → List ℤ → Type 0
-PlanOf p t plan = (q : Policy) → p ≡ storedPolicy q → RulesInRange (q .operator) (q .rules) → PlanFor (p .operator) plan q t
+-- the plan is that of policy k, with its rules in falling rank
+abbrev pub PlanKept : List ℤ → ℕ → ℤ → List ℤ → Type 0
+PlanKept cells k t plan = (h : PolicyKept cells k) → PlanFor plan (inRankOrder (h .policy)) t

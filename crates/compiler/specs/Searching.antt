@@ -8,7 +8,7 @@ use lib.IntN.{ℤ, natAbs}
 use lib.ListN.{length}
 use lib.Signed.{nonNeg}
 use Rattle.layout.specs.Nodes.{lineRecords}
-use Rattle.layout.specs.Writing.{putRecords, linesUpTo}
+use Rattle.layout.specs.Writing.{RoomFor, putRecords, linesUpTo}
 use Rattle.peal.specs.Policies.{Rule, Policy, maskOf}
 use Rattle.peal.specs.Lines.{lines, has}
 use Rattle.peal.specs.Search.{foundFrom}
@@ -16,7 +16,6 @@ use Rattle.peal.specs.declared.Operator.{Operator}
 use Rattle.book.specs.Ranges.{PolicyKept}
 use Rattle.compiler.specs.Worth.{worth}
 use Rattle.compiler.specs.Planning.{ThresholdFits, restOf, nextRule, RulesInRange, PlanFor}
-use Rattle.compiler.specs.Room.{RoomFor}
 
 -- a point of the search: a policy whose rules stand in falling rank, a threshold, and the rules taken
 pub record Point : Type 0 where
@@ -42,10 +41,11 @@ found p left = foundFrom (having p) (p .taken) (restOf left (p .policy .rules))
 
 -- `count` rules are taken and worth `value`, `left` are still to come, and the plan is that of the policy and the threshold
 pub record Searching (o : Operator) (plan : List ℤ) (count : ℕ) (value : ℤ) (left : ℕ) (p : Point) : Type 0 where
-  pub planned : PlanFor o plan (p .policy) (p .threshold)
+  pub operator : o ≡ p .policy .operator
+  pub planned : PlanFor plan (p .policy) (p .threshold)
   pub counted : count ≡ length (p .taken)
   pub valued : value ≡ worth (p .policy .operator) (p .taken)
-  pub inside : length (p .taken) + left ≤ length (p .policy .rules)
+  pub among : length (p .taken) + left ≤ length (p .policy .rules)
   pub range : RulesInRange (p .policy .operator) (p .taken)
 
 -- the search is at some point
@@ -65,17 +65,17 @@ pub record BitFits (mask : ℕ) (bit : ℤ) : Type 0 where
 
 -- sets of rules written as lines from record n on, where record `last` is the policy's last line
 unfoldable pub putSets : (last : ℕ) → List ℕ → ℕ → List (List Rule) → List ℕ
-putSets last words n sets = putRecords words n (linesUpTo last n (map maskOf sets))
+putSets last before n sets = putRecords before n (linesUpTo last n (map maskOf sets))
 
 -- the search is at some point, the mask is that of the rules taken, and the sets found have room as lines from record `at` on
 abbrev pub CanPut : Operator → List ℤ → (mask count : ℕ) → ℤ → (rank at : ℕ) → List ℕ → Type 0
-CanPut o plan mask count value rank at words =
-    (p : Point) × Searching o plan count value rank p × (mask ≡ maskOf (p .taken)) × RoomFor at (length (found p rank)) words
+CanPut o plan mask count value rank at lent =
+    (p : Point) × Searching o plan count value rank p × (mask ≡ maskOf (p .taken)) × RoomFor at (length (found p rank)) lent
 
 -- these sets are put into the words, and `next` is the record after them
 pub record SetsPut (last at : ℕ) (before : List ℕ) (sets : List (List Rule)) (next : ℕ) (after : List ℕ) : Type 0 where
   pub number : next ≡ at + length sets
-  pub words : after ≡ putSets last before at sets
+  pub written : after ≡ putSets last before at sets
 
 -- so the sets found are, at whatever point with that mask the search is
 abbrev pub FoundPut : Operator → List ℤ → (mask count : ℕ) → ℤ → (rank last at : ℕ) → List ℕ → ℕ → List ℕ → Type 0

@@ -5,7 +5,8 @@ ghost use lib.ListN.{getD};
 ghost use Rattle.peal.specs.Standins.{noExclusion};
 ghost use Rattle.translation.specs.Translation.{pairMask};
 ghost use Rattle.book.specs.Cells.{ForExclusions};
-ghost use Rattle.compiler.specs.Nodes.{ExclusionKept, ExclusionsFit, ExclusionsPut};
+ghost use Rattle.book.specs.Ranges.{ExclusionKept};
+ghost use Rattle.compiler.specs.Nodes.{ExclusionsFit, ExclusionsPut};
 
 // The set of the two signals of exclusion i.
 fn pair_mask(cells: &book::Cells, i: usize) -> u32

@@ -8,7 +8,6 @@ mod searching;
 use exclusions::put_exclusions;
 use nodes::count_records;
 use nodes::put_nodes;
-ghost use mathlib.Core.Path.{_≡_};
 ghost use Rattle.book.specs.Ranges.{ConditionKept};
 ghost use Rattle.compiler.specs.Meaning.{compiledMeaning, CompilingRan};
 ghost use Rattle.compiler.specs.Nodes.{ConditionReturns, ConditionLeaves};

@@ -2,36 +2,38 @@
 // For this crate only: no other can name these functions, and each call is proved to meet its condition.
 use crate::searching::count_lines;
 use crate::searching::put_lines;
+use layout::AND;
+use layout::OR;
 use text::CODE_COUNT;
+use text::MAX_CODE;
 use text::POLICY_CODE;
 ghost use mathlib.Core.Bool.{cond};
 ghost use mathlib.Core.Path.{_≡_};
 ghost use Prim.Native.Nat.{_+_, _^_, _<_};
 ghost use Rattle.arith.specs.Trees.{value, joining};
 ghost use Rattle.layout.specs.Records.{joinKind, policyKind};
+ghost use Rattle.layout.specs.Writing.{RoomFor};
 ghost use Rattle.peal.specs.Score.{scaled, meets};
 ghost use Rattle.translation.specs.Translation.{joinOf, turned, listed};
-ghost use Rattle.book.specs.Ranges.{ConditionKept, ForAsked};
+ghost use Rattle.book.specs.Ranges.{ConditionKept, ForAsked, CodeKept};
 ghost use Rattle.compiler.specs.Searching.{LinesKept, ForLines};
-ghost use Rattle.compiler.specs.Room.{RoomFor};
-ghost use Rattle.compiler.specs.Nodes.{ForJoin, NodeKept, NodeCounted, linesIn, nodeAt, follows, CountsUpTo, CountsKept, RecordsCounted, NodePut, NodesFit, NodesPut};
+ghost use Rattle.compiler.specs.Nodes.{ForJoin, NodeCounted, linesIn, nodeAt, follows, CountsUpTo, CountsKept, RecordsCounted, NodePut, NodesFit, NodesPut};
 
 // How many lines each node of a condition has: there is a code for each node.
 pub type LineCounts = [usize; CODE_COUNT];
 
 // The kind of a join, from its code: "and" for min under `<`, "or" for max; under `>=` the reverse.
 fn join_kind(sense: peal::Sense, code: u32) -> u32
-    requires { ⌜ code < 2 ⌝ }
     ensures { λ r. ⌜ ForJoin code (λ m. r ≡ joinKind (joinOf sense m)) ⌝ }
 {
     match sense {
-        peal::Sense::Above => layout::AND + code,
-        peal::Sense::AtMost => layout::OR - code,
+        peal::Sense::Above => { if code == MAX_CODE { OR } else { AND } }
+        peal::Sense::AtMost => { if code == MAX_CODE { AND } else { OR } }
     }
 }
 
 // A default meets the condition.
-fn is_met(sense: peal::Sense, threshold: i32, default: i32) -> bool
+fn default_meets(sense: peal::Sense, threshold: i32, default: i32) -> bool
     ensures { λ r. ⌜ r ≡ meets sense threshold (scaled default) ⌝ }
 {
     match sense {
@@ -44,19 +46,10 @@ fn is_met(sense: peal::Sense, threshold: i32, default: i32) -> bool
 fn is_turned(sense: peal::Sense, operator: peal::Operator) -> bool
     ensures { λ r. ⌜ r ≡ turned sense operator ⌝ }
 {
+    let rising = peal::rises(operator);
     match sense {
-        peal::Sense::AtMost => match operator {
-            peal::Operator::Sum => true,
-            peal::Operator::Max => true,
-            peal::Operator::Mul => false,
-            peal::Operator::Min => false,
-        },
-        peal::Sense::Above => match operator {
-            peal::Operator::Sum => false,
-            peal::Operator::Max => false,
-            peal::Operator::Mul => true,
-            peal::Operator::Min => true,
-        },
+        peal::Sense::AtMost => rising,
+        peal::Sense::Above => !rising,
     }
 }
 
@@ -65,7 +58,7 @@ fn mention_kind(sense: peal::Sense, threshold: i32, operator: peal::Operator, de
     ensures { λ r. ⌜ r ≡ policyKind (meets sense threshold (scaled default)) (turned sense operator) ⌝ }
 {
     layout::policy_kind(
-        is_met(sense, threshold, default),
+        default_meets(sense, threshold, default),
         is_turned(sense, operator),
     )
 }
@@ -83,7 +76,7 @@ fn number_if(there: bool, number: usize) -> u32
 
 // How many lines node i of condition n has.
 fn node_lines(cells: &book::Cells, n: usize, i: usize) -> usize
-    requires { ⌜ NodeKept (now cells) n i ⌝ }
+    requires { ⌜ CodeKept (now cells) n i ⌝ }
     ensures { λ r. ⌜ ForAsked (now (cells .entry)) n (λ b c. r ≡ linesIn (nodeAt b c i)) ⌝ }
 {
     let code = book::code_at(cells, n, i);
@@ -97,7 +90,7 @@ fn node_lines(cells: &book::Cells, n: usize, i: usize) -> usize
 
 // The same, from how many lines the nodes before it have: a policy that was mentioned before is not searched again.
 fn next_lines(cells: &book::Cells, n: usize, lines: &LineCounts, i: usize) -> usize
-    requires { ⌜ NodeKept (now cells) n i × CountsUpTo (now cells) n (now lines) i ⌝ }
+    requires { ⌜ CodeKept (now cells) n i × CountsUpTo (now cells) n (now lines) i ⌝ }
     ensures { λ r. ⌜ ForAsked (now (cells .entry)) n (λ b c. r ≡ linesIn (nodeAt b c i)) ⌝ }
 {
     let code = book::code_at(cells, n, i);
@@ -112,8 +105,8 @@ fn next_lines(cells: &book::Cells, n: usize, lines: &LineCounts, i: usize) -> us
     node_lines(cells, n, i)
 }
 
-// How many records the listing of condition n has, those of the exclusions among them. Into `lines`, how many lines each
-// node has.
+// How many records the listing of condition n has, those of the exclusions among them. Into `lines`, how many lines
+// each node has.
 pub fn count_records(cells: &book::Cells, n: usize, lines: &mut LineCounts) -> usize
     requires { ⌜ ConditionKept (now cells) n ⌝ }
     ensures { λ r. ⌜ RecordsCounted (now (cells .entry)) n r (now (lines .exit)) ⌝ }
@@ -134,7 +127,7 @@ pub fn count_records(cells: &book::Cells, n: usize, lines: &mut LineCounts) -> u
 
 // A join as record `at`; `more` tells whether a node follows.
 fn put_join(sense: peal::Sense, code: u32, words: &mut [u32], at: usize, more: bool)
-    requires { ⌜ (code < 2) × RoomFor at 1 (now words) ⌝ }
+    requires { ⌜ RoomFor at 1 (now words) ⌝ }
     ensures { λ r. ⌜ ForJoin code
         (λ m. NodePut at more (joining (joinOf sense m)) (now (words .entry)) (now (words .exit))) ⌝ }
 {

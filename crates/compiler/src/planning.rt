@@ -5,11 +5,13 @@ ghost use mathlib.Core.Path.{_≡_};
 ghost use Prim.Native.Nat.{_^_, _≤_};
 ghost use lib.Signed.{mag};
 ghost use Rattle.book.specs.Cells.{mostRules};
+ghost use Rattle.book.specs.Ranges.{PolicyKept};
 ghost use Rattle.compiler.specs.Worth.{initial as initialOf, clamped as clampedOf, limitOf, NextLimit};
-ghost use Rattle.compiler.specs.Planning.{ThresholdFits, RulesKept, withRow, PlanOf};
+ghost use Rattle.compiler.specs.Planning.{ThresholdFits, withRow, PlanKept};
 
 // The plan has a row of four cells for each number k of rules, none too. First stands the limit of the sets of k rules;
-// after it, at these places, the operator over the k rules of lowest rank, and the score and the bit of the first of these.
+// after it, at these places, the operator over the k rules of lowest rank, and the score and the bit of the first of
+// these.
 pub const ROW: usize = 4;
 
 pub const REST: usize = 1;
@@ -48,12 +50,10 @@ fn clamped(threshold: i32) -> i64
 fn first_limit(operator: peal::Operator, threshold: i32) -> i64
     ensures { λ r. ⌜ r ≡ limitOf operator threshold 0 ⌝ }
 {
-    match operator {
-        peal::Operator::Mul => clamped(threshold),
-        peal::Operator::Min => threshold as i64,
-        peal::Operator::Max => threshold as i64,
-        peal::Operator::Sum => threshold as i64,
+    if let peal::Operator::Mul = operator {
+        return clamped(threshold);
     }
+    threshold as i64
 }
 
 // The limit of a set of one rule more.
@@ -61,12 +61,10 @@ fn next_limit(operator: peal::Operator, limit: i64) -> i64
     requires { ⌜ mag limit ≤ 10 ^ 16 ⌝ }
     ensures { λ r. ⌜ NextLimit operator limit r ⌝ }
 {
-    match operator {
-        peal::Operator::Mul => limit * UNIT,
-        peal::Operator::Min => limit,
-        peal::Operator::Max => limit,
-        peal::Operator::Sum => limit,
+    if let peal::Operator::Mul = operator {
+        return limit * UNIT;
     }
+    limit
 }
 
 // The operator over no score.
@@ -93,11 +91,12 @@ fn put_row(plan: &mut Plan, k: usize, limit: i64, rest: i64, score: i64, bit: i6
     plan[row + BIT] = bit;
 }
 
-// The plan of a policy whose rules stand in falling rank.
-pub fn planned(policy: book::Policy, threshold: i32) -> Plan
-    requires { ⌜ RulesKept policy × ThresholdFits threshold ⌝ }
-    ensures { λ r. ⌜ PlanOf policy threshold r ⌝ }
+// The plan of policy k, with its rules in falling rank.
+pub fn planned(cells: &book::Cells, k: usize, threshold: i32) -> Plan
+    requires { ⌜ PolicyKept (now cells) k × ThresholdFits threshold ⌝ }
+    ensures { λ r. ⌜ PlanKept (now (cells .entry)) k threshold r ⌝ }
 {
+    let policy = ranking::in_rank_order(book::policy_at(cells, k));
     let operator = policy.operator;
     let count = policy.count;
     let mut limit = first_limit(operator, threshold);
@@ -105,16 +104,16 @@ pub fn planned(policy: book::Policy, threshold: i32) -> Plan
     let mut plan = [0i64; PLAN_CELLS];
     // Of no rules there is no first: its cells stay 0.
     put_row(&mut plan, 0, limit, rest, 0, 0);
-    let mut k = 0;
-    while k < count {
-        k += 1;
-        let i = count - k;
+    let mut rules = 0;
+    while rules < count {
+        rules += 1;
+        let i = count - rules;
         let signal = policy.signals[i];
         let score = policy.scores[i] as i64;
         let bit = signals::bit(signal) as i64;
         limit = next_limit(operator, limit);
         rest = peal::combined(operator, score, rest);
-        put_row(&mut plan, k, limit, rest, score, bit);
+        put_row(&mut plan, rules, limit, rest, score, bit);
     }
     plan
 }

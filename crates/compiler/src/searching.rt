@@ -14,13 +14,13 @@ ghost use Prim.Native.Nat.{_+_, _^_, _≤_};
 ghost use lib.IntN.{natAbs};
 ghost use lib.ListN.{length};
 ghost use lib.Signed.{mag};
+ghost use Rattle.layout.specs.Writing.{RoomFor};
 ghost use Rattle.peal.specs.Combining.{combinedOf};
 ghost use Rattle.book.specs.Cells.{mostRules};
 ghost use Rattle.book.specs.Ranges.{PolicyKept};
 ghost use Rattle.compiler.specs.Worth.{reachedOf};
-ghost use Rattle.compiler.specs.Planning.{ThresholdFits, scoreIn, bitIn};
+ghost use Rattle.compiler.specs.Planning.{ThresholdFits, planScore, planBit};
 ghost use Rattle.compiler.specs.Searching.{having, allAt, found, CanSearch, ForPoints, BitFits, CanPut, FoundPut, OfLines, LinesKept, LinesPut};
-ghost use Rattle.compiler.specs.Room.{RoomFor};
 
 // A value is on the side of the limit that counts.
 fn is_reached(operator: peal::Operator, limit: i64, value: i64) -> bool
@@ -56,16 +56,16 @@ fn has_reached(operator: peal::Operator, plan: &Plan, count: usize, value: i64) 
 
 // What the rules taken are worth with the first of the rules still to come.
 fn next_value(operator: peal::Operator, plan: &Plan, value: i64, left: usize) -> i64
-    requires { ⌜ (left ≤ mostRules) × (mag (combinedOf operator value (scoreIn (now plan) left)) ≤ 10 ^ 16) ⌝ }
-    ensures { λ r. ⌜ r ≡ combinedOf operator value (scoreIn (now (plan .entry)) left) ⌝ }
+    requires { ⌜ (left ≤ mostRules) × (mag (combinedOf operator value (planScore (now plan) left)) ≤ 10 ^ 16) ⌝ }
+    ensures { λ r. ⌜ r ≡ combinedOf operator value (planScore (now (plan .entry)) left) ⌝ }
 {
     peal::combined(operator, value, plan[left * ROW + SCORE])
 }
 
 // The mask of the rules taken with the first of the rules still to come.
 fn next_mask(plan: &Plan, mask: u32, left: usize) -> u32
-    requires { ⌜ (left ≤ mostRules) × BitFits mask (bitIn (now plan) left) ⌝ }
-    ensures { λ r. ⌜ r ≡ mask + natAbs (bitIn (now (plan .entry)) left) ⌝ }
+    requires { ⌜ (left ≤ mostRules) × BitFits mask (planBit (now plan) left) ⌝ }
+    ensures { λ r. ⌜ r ≡ mask + natAbs (planBit (now (plan .entry)) left) ⌝ }
 {
     mask + plan[left * ROW + BIT] as u32
 }
@@ -88,12 +88,12 @@ fn count_found(
             return sets;
         }
         let next = next_value(operator, plan, value, left);
-        let taken = count + 1;
+        let size = count + 1;
         left -= 1;
-        if has_reached(operator, plan, taken, next) {
+        if has_reached(operator, plan, size, next) {
             sets += 1;
         } else {
-            sets += count_found(operator, plan, taken, next, left);
+            sets += count_found(operator, plan, size, next, left);
         }
     }
     sets
@@ -124,13 +124,13 @@ fn search(
         }
         let next = next_value(operator, plan, value, left);
         let set = next_mask(plan, mask, left);
-        let taken = count + 1;
+        let size = count + 1;
         left -= 1;
-        if has_reached(operator, plan, taken, next) {
+        if has_reached(operator, plan, size, next) {
             layout::put_line(words, after, set, last);
             after += 1;
         } else {
-            after = search(operator, plan, set, taken, next, left, words, after, last);
+            after = search(operator, plan, set, size, next, left, words, after, last);
         }
     }
     after
@@ -141,10 +141,9 @@ pub fn count_lines(cells: &book::Cells, k: usize, threshold: i32) -> usize
     requires { ⌜ PolicyKept (now cells) k × ThresholdFits threshold ⌝ }
     ensures { λ r. ⌜ OfLines (now (cells .entry)) k threshold (λ sets. r ≡ length sets) ⌝ }
 {
-    let policy = ranking::in_rank_order(book::policy_at(cells, k));
-    let operator = policy.operator;
-    let rules = policy.count;
-    let plan = planned(policy, threshold);
+    let plan = planned(cells, k, threshold);
+    let operator = book::operator_at(cells, k);
+    let rules = book::count_at(cells, k);
     let value = initial(operator);
     count_found(operator, &plan, 0, value, rules)
 }
@@ -161,10 +160,9 @@ pub fn put_lines(
     requires { ⌜ LinesKept (now cells) k threshold count × RoomFor at count (now words) ⌝ }
     ensures { λ r. ⌜ LinesPut (now (cells .entry)) k threshold count at (now (words .entry)) (now (words .exit)) ⌝ }
 {
-    let policy = ranking::in_rank_order(book::policy_at(cells, k));
-    let operator = policy.operator;
-    let rules = policy.count;
-    let plan = planned(policy, threshold);
+    let plan = planned(cells, k, threshold);
+    let operator = book::operator_at(cells, k);
+    let rules = book::count_at(cells, k);
     let value = initial(operator);
     let last = at + count - 1;
     search(operator, &plan, 0, 0, value, rules, words, at, last);

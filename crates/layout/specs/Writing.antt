@@ -1,5 +1,5 @@
 -- Records written into lent words; record n, which counts from 1, has words (n - 1) * 4 to n * 4 - 1.
-use Prim.Native.Nat.{ℕ, _+_, _-_, _*_, _≤_, _<_}
+use Prim.Native.Nat.{ℕ, _+_, _-_, _*_, _^_, _≤_, _<_}
 use mathlib.Core.Bool.{cond}
 use mathlib.Core.List.{List, [], _∷_, _++_}
 use mathlib.Core.Path.{_≡_}
@@ -7,6 +7,12 @@ use lib.Dec.{eqb}
 use lib.ListN.{length, take, drop}
 use lib.Seq.{sets}
 use Rattle.layout.specs.Records.{Record, words, lineKind}
+
+-- the records from `first` on, so many, have room in the lent words, and every number among them fits a word
+pub record RoomFor (first count : ℕ) (lent : List ℕ) : Type 0 where
+  pub begins : 0 < first
+  pub numbers : first + count < 2 ^ 32
+  pub room : (first - 1 + count) * 4 ≤ length lent
 
 -- record r written as record n: its four words, one after the other
 unfoldable pub putRecord : List ℕ → ℕ → Record → List ℕ

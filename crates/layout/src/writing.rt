@@ -9,9 +9,9 @@ ghost use mathlib.Core.Path.{_≡_};
 ghost use Prim.Native.Nat.{_+_, _*_, _^_, _≤_, _<_};
 ghost use lib.Dec.{eqb};
 ghost use lib.ListN.{length};
-ghost use Rattle.layout.specs.Writing.{putRecord, lineRecord};
+ghost use Rattle.layout.specs.Writing.{RoomFor, putRecord, lineRecord};
 
-// Record n, which counts from 1.
+// Record n, which counts from 1. It may be any number that has room: `next` is a word already.
 pub fn put_record(words: &mut [u32], n: usize, kind: u32, mask: u32, lines: u32, next: u32)
     requires { ⌜ (0 < n) × (n * 4 ≤ length (now words)) ⌝ }
     ensures { λ _. ⌜ now (words .exit) ≡ putRecord (now (words .entry)) n
@@ -37,7 +37,7 @@ fn next_line(n: usize, last: usize) -> u32
 
 // A line as record n.
 pub fn put_line(words: &mut [u32], n: usize, mask: u32, last: usize)
-    requires { ⌜ (0 < n) × (n + 1 < 2 ^ 32) × (n * 4 ≤ length (now words)) ⌝ }
+    requires { ⌜ RoomFor n 1 (now words) ⌝ }
     ensures { λ _. ⌜ now (words .exit) ≡ putRecord (now (words .entry)) n (lineRecord last n mask) ⌝ }
 {
     let next = next_line(n, last);

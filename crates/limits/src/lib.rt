@@ -63,12 +63,10 @@ pub fn room_for_condition(n: usize) -> bool
 pub fn room_for_rule(o: peal::Operator, n: usize) -> bool
     ensures { λ r. ⌜ r ≡ roomForRule o n ⌝ }
 {
-    match o {
-        peal::Operator::Mul => n < MOST_MUL_RULES,
-        peal::Operator::Min => true,
-        peal::Operator::Max => true,
-        peal::Operator::Sum => true,
+    if let peal::Operator::Mul = o {
+        return n < MOST_MUL_RULES;
     }
+    true
 }
 
 // A book of n exclusions has room for one more.

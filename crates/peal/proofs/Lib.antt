@@ -4,6 +4,7 @@ pub mod Equality
 pub mod Examples
 pub mod ScoreExamples
 pub mod MinimalSets
+pub mod OtherOperators
 pub mod SearchLaws
 pub mod HigherLaws
 pub mod RankLaws

@@ -8,11 +8,10 @@ use denote.Ref.{now}
 use lib.ListN.{length}
 use Rattle.answers.specs.Answers.{result}
 use Rattle.layout.specs.Nodes.{nodeRecords}
-use Rattle.layout.specs.Writing.{putRecords}
+use Rattle.layout.specs.Writing.{RoomFor, putRecords}
 use Rattle.translation.specs.Translation.{listingRecords}
 use Rattle.book.specs.Ranges.{ConditionKept}
 use Rattle.book.proofs.CellLaws.{exclusions-kept, same-exclusions}
-use Rattle.compiler.specs.Room.{RoomFor}
 use Rattle.compiler.specs.Nodes.{nodesOf}
 use Rattle.compiler.proofs.TurnLaws.{listing-count, put-listing}
 use Rattle.compiler.proofs.RoomLaws.{room-part, room-returned, room-lent, no-room-returned, no-room-lent}
@@ -50,7 +49,7 @@ module _ (c : tie.After-exclusion-count) where
   room : (h : ConditionKept (now (start .args .cells)) (start .args .n)) → RoomFor 1 (length (listingRecords (h .book) (h .condition))) (now (start .args .words))
   room h =
       let r = counted .count-records .ensures in
-      record { begins = omega arith; numbers = omega (arith, r .small, r .listing h); inside = omega (arith, c .before .if1 .left, r .listing h) }
+      record { begins = omega arith; numbers = omega (arith, r .small, r .listing h); room = omega (arith, c .before .if1 .left, r .listing h) }
 
 put-exclusions-requires : tie.Need-put-exclusions-requires
 put-exclusions-requires c κs =
@@ -81,12 +80,12 @@ returns-2 c =
     let w = now (start q .args .words) in (
       λ h.
           ap (λ (n : ℕ). result n) (r .listing h)
-          ∙ room-returned (listingRecords (h .book) (h .condition)) w (omega (arith, room q h .inside)),
+          ∙ room-returned (listingRecords (h .book) (h .condition)) w (omega (arith, room q h .room)),
       λ h.
           p .put-nodes .ensures h
           ∙ ap (λ (ws : List ℕ). putRecords ws first (nodeRecords first (nodesOf (h .book) (h .condition)))) (x .put-exclusions .ensures (h .book .exclusions) (h .held .exclusions))
           ∙ put-listing h (q .exclusion-count .result) (pairs q h) w
-          ∙ room-lent (listingRecords (h .book) (h .condition)) w (omega (arith, room q h .inside)),
+          ∙ room-lent (listingRecords (h .book) (h .condition)) w (omega (arith, room q h .room)),
     )
 
 pub compile-condition-spec : {M : Type 1} → statement M

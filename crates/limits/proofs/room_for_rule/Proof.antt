@@ -1,20 +1,15 @@
--- `limits::room_for_rule`: each operator by its arm.
-use Rattle.limits.specs.Limits.{roomForRule}
+-- `limits::room_for_rule`: only mul has a limit of its own.
+use mathlib.Core.Bool.{true}
+use mathlib.Core.Path.{_≡_, refl}
 use borrow.Author.Needs.{needs}
+use Rattle.peal.specs.declared.Operator.{Operator}
+use Rattle.peal.proofs.OtherOperators.{other-operator}
+use Rattle.limits.specs.Limits.{roomForRule}
 use Rattle.limits.proofs.room_for_rule.Statement.{statement}
 use Rattle.limits.proofs.room_for_rule.Tie as tie
 
 enum-told : tie.Need-enum-told
 enum-told c = search needs
-
-enum-told-2 : tie.Need-enum-told-2
-enum-told-2 c = search needs
-
-enum-told-3 : tie.Need-enum-told-3
-enum-told-3 c = search needs
-
-enum-told-4 : tie.Need-enum-told-4
-enum-told-4 c = search needs
 
 returns : tie.Need-returns
 unfolding roomForRule
@@ -22,17 +17,7 @@ returns c = rw (c .enum-told .given .1)
 
 returns-2 : tie.Need-returns-2
 unfolding roomForRule
-returns-2 c = rw (c .enum-told2 .given .1)
-
-returns-3 : tie.Need-returns-3
-unfolding roomForRule
-returns-3 c = rw (c .enum-told3 .given .1)
-
-returns-4 : tie.Need-returns-4
-unfolding roomForRule
-returns-4 c = rw (c .enum-told4 .given .1)
+returns-2 c = let a = c .before .args in other-operator (λ (o : Operator). true ≡ roomForRule o (a .n)) (a .o) (c .match .keys2) refl refl refl
 
 pub room-for-rule-spec : {M : Type 1} → statement M
-room-for-rule-spec =
-    tie.close
-    (tie.spec enum-told enum-told-2 enum-told-3 enum-told-4 returns returns-2 returns-3 returns-4)
+room-for-rule-spec = tie.close (tie.spec enum-told returns returns-2)

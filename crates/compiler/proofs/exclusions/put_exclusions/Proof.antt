@@ -55,7 +55,7 @@ put-record-requires : tie.Need-put-record-requires Inv-loop μ-loop
 put-record-requires c κs =
     let w = c .before .before in
     let k = start w .pre in
-    (omega arith, omega (arith, inside w (k .0 .exclusions) (k .0 .held), k .1 .inside, turn w .loop .inv .1))
+    (omega arith, omega (arith, inside w (k .0 .exclusions) (k .0 .held), k .1 .room, turn w .loop .inv .1))
 
 add-i : tie.Need-add-i Inv-loop μ-loop
 add-i c = omega (arith, few (c .before .before .before .before .before))

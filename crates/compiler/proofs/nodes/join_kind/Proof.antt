@@ -1,32 +1,32 @@
--- `compiler::nodes::join_kind`: a sense at a time.
-use mathlib.Core.Path.{sym, ap, _∙_}
+-- `compiler::nodes::join_kind`: a sense and a code at a time.
 use borrow.Author.Needs.{needs}
 use Rattle.layout.specs.Records.{joinKind}
 use Rattle.translation.specs.Translation.{joinOf}
-use Rattle.peal.specs.declared.Sense.{Sense}
-use Rattle.compiler.proofs.MentionLaws.{above-kind, at-most-kind}
+use Rattle.compiler.proofs.MentionLaws.{is-larger, is-smaller}
 use Rattle.compiler.proofs.nodes.join_kind.Statement.{statement}
 use Rattle.compiler.proofs.nodes.join_kind.Tie as tie
 
 enum-told : tie.Need-enum-told
 enum-told c = search needs
 
-add-result : tie.Need-add-result
-add-result c = search needs
-
 enum-told-2 : tie.Need-enum-told-2
 enum-told-2 c = search needs
 
-sub-result : tie.Need-sub-result
-sub-result c = search needs
-
 returns : tie.Need-returns
-returns c =
-    λ m e. above-kind m (c .before .before .args .code) e ∙ ap (λ (s : Sense). joinKind (joinOf s m)) (sym (c .enum-told .given .1))
+unfolding joinKind joinOf
+returns c = λ m e. rw (c .before .enum-told .given .1, is-larger m e (c .if1 .taken))
 
 returns-2 : tie.Need-returns-2
-returns-2 c =
-    λ m e. at-most-kind m (c .before .before .args .code) e ∙ ap (λ (s : Sense). joinKind (joinOf s m)) (sym (c .enum-told2 .given .1))
+unfolding joinKind joinOf
+returns-2 c = λ m e. rw (c .before .enum-told .given .1, is-smaller m e (c .if1 .left))
+
+returns-3 : tie.Need-returns-3
+unfolding joinKind joinOf
+returns-3 c = λ m e. rw (c .before .enum-told2 .given .1, is-larger m e (c .if2 .taken))
+
+returns-4 : tie.Need-returns-4
+unfolding joinKind joinOf
+returns-4 c = λ m e. rw (c .before .enum-told2 .given .1, is-smaller m e (c .if2 .left))
 
 pub join-kind-spec : {M : Type 1} → statement M
-join-kind-spec = tie.close (tie.spec enum-told add-result enum-told-2 sub-result returns returns-2)
+join-kind-spec = tie.close (tie.spec enum-told enum-told-2 returns returns-2 returns-3 returns-4)

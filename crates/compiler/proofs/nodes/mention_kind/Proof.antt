@@ -9,8 +9,8 @@ use Rattle.peal.specs.Score.{scaled, meets}
 use Rattle.compiler.proofs.nodes.mention_kind.Statement.{statement}
 use Rattle.compiler.proofs.nodes.mention_kind.Tie as tie
 
-is-met-requires : tie.Need-is-met-requires
-is-met-requires c κs = search needs
+default-meets-requires : tie.Need-default-meets-requires
+default-meets-requires c κs = search needs
 
 is-turned-requires : tie.Need-is-turned-requires
 is-turned-requires c κs = search needs
@@ -26,9 +26,9 @@ returns c =
     let a = s .args in
     c .policy-kind .ensures
     ∙ ap₂ policyKind
-    (m .is-met .ensures ∙ ap₂ (λ (x y : ℤ). meets (a .sense) x (scaled y)) (toZ-ofZ w32 (a .threshold) (s .fits .threshold)) (toZ-ofZ w32 (a .default) (s .fits .default)))
+    (m .default-meets .ensures ∙ ap₂ (λ (x y : ℤ). meets (a .sense) x (scaled y)) (toZ-ofZ w32 (a .threshold) (s .fits .threshold)) (toZ-ofZ w32 (a .default) (s .fits .default)))
     (t .is-turned .ensures)
 
 pub mention-kind-spec : {M : Type 1} → statement M
 mention-kind-spec =
-    tie.close (tie.spec is-met-requires is-turned-requires policy-kind-requires returns)
+    tie.close (tie.spec default-meets-requires is-turned-requires policy-kind-requires returns)

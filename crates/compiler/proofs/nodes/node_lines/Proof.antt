@@ -5,7 +5,7 @@ use native.Mathlib.Omega.{arith}
 use borrow.Author.Needs.{needs}
 use denote.Ref.{now}
 use mir.Syntax.{w32}
-use mir.Val.{SFits, toZ, ofZ}
+use mir.Val.{toZ, ofZ}
 use mir.ValLaws.{toZ-ofZ}
 use Rattle.book.specs.Ranges.{ConditionKept}
 use Rattle.book.proofs.CellLaws.{condition-held}
@@ -36,7 +36,7 @@ threshold-at-requires c κs = c .before .before .pre .0
 -- the threshold, as it is passed
 same : (c : tie.After-threshold-at) → let s = c .before .before .before in
     (h : ConditionKept (now (s .args .cells)) (s .args .n)) → toZ w32 (ofZ w32 (c .threshold-at .result)) ≡ h .condition .threshold
-same c h = let fits : SFits w32 (c .threshold-at .result) = search needs in toZ-ofZ w32 (c .threshold-at .result) fits ∙ c .threshold-at .ensures (h .condition) (condition-held h)
+same c h = toZ-ofZ w32 (c .threshold-at .result) (search needs) ∙ c .threshold-at .ensures (h .condition) (condition-held h)
 
 count-lines-requires : tie.Need-count-lines-requires
 count-lines-requires c κs =

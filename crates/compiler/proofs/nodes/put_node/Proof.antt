@@ -7,7 +7,7 @@ use borrow.Author.Needs.{needs}
 use denote.Ref.{now}
 use lib.Dec.{ltb}
 use mir.Syntax.{w32}
-use mir.Val.{SFits, toZ, ofZ}
+use mir.Val.{toZ, ofZ}
 use mir.ValLaws.{toZ-ofZ}
 use Rattle.layout.specs.Nodes.{ListedNode}
 use Rattle.layout.specs.Writing.{putRecords}
@@ -53,7 +53,7 @@ put-join-requires : tie.Need-put-join-requires
 put-join-requires c κs =
     let e = c .before in
     let r = start (e .before) .pre .1 in
-    (e .if1 .taken, room-part r _ 1 (r .begins) (omega arith) refl)
+    room-part r _ 1 (r .begins) (omega arith) refl
 
 threshold-at-requires : tie.Need-threshold-at-requires
 threshold-at-requires c κs = start (c .before) .pre .0 .kept .0
@@ -64,7 +64,7 @@ cast-k c = search needs
 -- the threshold, as it is passed
 same : (c : tie.After-threshold-at) → let s = start (c .before .before) in
     (h : ConditionKept (now (s .args .cells)) (s .args .n)) → toZ w32 (ofZ w32 (c .threshold-at .result)) ≡ h .condition .threshold
-same c h = let fits : SFits w32 (c .threshold-at .result) = search needs in toZ-ofZ w32 (c .threshold-at .result) fits ∙ c .threshold-at .ensures (h .condition) (condition-held h)
+same c h = toZ-ofZ w32 (c .threshold-at .result) (search needs) ∙ c .threshold-at .ensures (h .condition) (condition-held h)
 
 put-policy-requires : tie.Need-put-policy-requires
 put-policy-requires c κs =

@@ -4,9 +4,9 @@ use mathlib.Core.Path.{_≡_, refl, _∙_}
 use native.Mathlib.Omega.{arith}
 use denote.Ref.{now}
 use lib.ListN.{length, getD}
+use Rattle.layout.specs.Writing.{RoomFor}
 use Rattle.book.specs.Ranges.{ConditionKept}
 use Rattle.book.proofs.CellLaws.{condition-held, codes-few}
-use Rattle.compiler.specs.Room.{RoomFor}
 use Rattle.compiler.proofs.RoomLaws.{room-part}
 use Rattle.compiler.proofs.KeptNodes.{size}
 use Rattle.compiler.proofs.TurnLaws.{WrittenTo, put-start, node-inside, put-turn, put-end}

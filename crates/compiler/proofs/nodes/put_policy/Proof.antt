@@ -8,7 +8,7 @@ use denote.Ref.{now}
 use lib.IntN.{ℤ}
 use lib.ListN.{length}
 use mir.Syntax.{w32}
-use mir.Val.{SFits, toZ, ofZ}
+use mir.Val.{toZ, ofZ}
 use mir.ValLaws.{toZ-ofZ}
 use Rattle.layout.specs.Records.{policyKind}
 use Rattle.layout.specs.Nodes.{lineRecords}
@@ -46,10 +46,9 @@ kind c h =
     let o = d .before in
     let s = o .before .before in
     let p = h .kept .policy in
-    let fits : SFits w32 (d .default-at .result) = search needs in
     c .mention-kind .ensures
     ∙ ap₂ policyKind
-    (ap₂ (λ (x y : ℤ). meets (s .args .sense) x (scaled y)) (same s) (toZ-ofZ w32 (d .default-at .result) fits ∙ d .default-at .ensures p (h .kept .held)))
+    (ap₂ (λ (x y : ℤ). meets (s .args .sense) x (scaled y)) (same s) (toZ-ofZ w32 (d .default-at .result) (search needs) ∙ d .default-at .ensures p (h .kept .held)))
     (ap (turned (s .args .sense)) (o .operator-at .ensures p (h .kept .held)))
 
 mask-at-requires : tie.Need-mask-at-requires
@@ -74,7 +73,7 @@ number-if-requires-2 : tie.Need-number-if-requires-2
 number-if-requires-2 c κs = let s = c .before .before .before .before .before .before in omega (arith, s .pre .1 .numbers)
 
 put-record-requires : tie.Need-put-record-requires
-put-record-requires c κs = let s = c .before .before .before .before .before .before .before .before in (s .pre .1 .begins, omega (arith, s .pre .1 .inside, s .pre .1 .begins))
+put-record-requires c κs = let s = c .before .before .before .before .before .before .before .before in (s .pre .1 .begins, omega (arith, s .pre .1 .room, s .pre .1 .begins))
 
 -- after the record
 abbrev start : tie.After-put-lines-arg → tie.Start

@@ -1,12 +1,11 @@
 -- `compiler::planning::put_row`: the cells of a row lie inside the plan, one after the other.
 use borrow.Author.Needs.{needs}
-use Prim.Native.Nat.{_*_}
 use mathlib.Core.List.{[], _∷_}
 use denote.Ref.{now}
 use mir.Syntax.{w64}
 use mir.ValLaws.{toZ-ofZ}
 use Rattle.arith.proofs.Rows.{first-stored}
-use Rattle.compiler.specs.Planning.{withRow}
+use Rattle.compiler.specs.Planning.{rowFrom, withRow}
 use Rattle.compiler.proofs.planning.put_row.Statement.{statement}
 use Rattle.compiler.proofs.planning.put_row.Tie as tie
 
@@ -56,7 +55,7 @@ returns c =
       toZ-ofZ w64 (a .score) (c .fits .score),
       toZ-ofZ w64 (a .bit) (c .fits .bit),
     )
-    (first-stored (now (a .plan)) (a .k * 4) (a .limit) (a .rest ∷ a .score ∷ a .bit ∷ []))
+    (first-stored (now (a .plan)) (rowFrom (a .k)) (a .limit) (a .rest ∷ a .score ∷ a .bit ∷ []))
 
 pub put-row-spec : {M : Type 1} → statement M
 put-row-spec =

@@ -1,21 +1,20 @@
 -- `compiler::searching::count_found`: what is left to be found is all that is left to be counted; each call has fewer rules to come.
 use Prim.Native.Nat.{ℕ, _+_, _-_, _<_, _≤_}
-use mathlib.Core.Path.{_≡_, refl, sym, ap, _∙_}
+use mathlib.Core.Path.{refl, sym, ap, _∙_}
 use native.Mathlib.Nat.{zero-add}
 use native.Mathlib.Omega.{arith}
 use borrow.Author.Needs.{needs}
-use borrow.Author.Tests.{not-true, not-false}
+use borrow.Author.Tests.{not-true}
 use borrow.Fn.Kinds.{In}
 use borrow.Fn.PlainCycle.{Measures, is, falls, and}
 use denote.Ref.{now}
-use lib.ListN.{length}
 use mir.Syntax.{w64}
-use mir.Val.{SFits, toZ, ofZ}
+use mir.Val.{toZ, ofZ}
 use mir.ValLaws.{toZ-ofZ}
-use Rattle.compiler.specs.Searching.{Point, taking, found, Searching}
+use Rattle.compiler.specs.Searching.{Point, Searching}
 use Rattle.compiler.proofs.PointLaws.{taken-few, read-back, none-coming, next-small}
 use Rattle.compiler.proofs.FoundLaws.{nothing-found, found-none, found-few}
-use Rattle.compiler.proofs.SearchTurns.{Underway, Trying, taken, ended, one-room, one-done, more-room, more-done, counting}
+use Rattle.compiler.proofs.SearchTurns.{Underway, Trying, tries, taken, ended, one-room, one-done, more-room, more-done, counting}
 use Rattle.compiler.proofs.searching.count_found.Reads as counted
 use Rattle.compiler.proofs.searching.count_found.Kinds as count-kinds
 use Rattle.compiler.proofs.searching.+count_found.Lts-count_found as lts
@@ -81,15 +80,10 @@ module _ (t : ℕ) where
     trying : let a = first turn .args in
         Trying (a .operator) (now (a .plan)) (a .count) (toZ w64 (ofZ w64 (a .value))) (turn .before .loop .left) (toZ w64 (ofZ w64 (c .next-value .result)))
     trying =
-        let fits : SFits w64 (c .next-value .result) = search needs in
-        record {
-          some = turn .loop-test .taken;
-          reaches = λ p h. sym (c .before .before .can-reach .ensures p h) ∙ not-false _ (c .before .if1 .left);
-          valued = toZ-ofZ w64 (c .next-value .result) fits ∙ c .next-value .ensures;
-        }
+        tries (turn .loop-test .taken) (c .before .before .can-reach .ensures) (c .before .if1 .left) (toZ-ofZ w64 (c .next-value .result) (search needs) ∙ c .next-value .ensures)
 
-  add-taken : lts.Need-add-taken (calls t) (count-at t) counted.Post Inv-loop μ-loop
-  add-taken c = record { fits = omega (arith, few (turn c)) }
+  add-size : lts.Need-add-size (calls t) (count-at t) counted.Post Inv-loop μ-loop
+  add-size c = record { fits = omega (arith, few (turn c)) }
 
   sub-left : lts.Need-sub-left (calls t) (count-at t) counted.Post Inv-loop μ-loop
   sub-left c = omega (arith, turn c .loop-test .taken)
@@ -122,42 +116,26 @@ module _ (t : ℕ) where
       let l = turn w in
       (omega (arith, l .loop-test .taken, l .before .loop .inv .0, first l .pre .0), (_, taken (trying w) (asked l .here)))
 
-  module _ (c : lts.After-count-found (calls t) (count-at t) counted.Post Inv-loop μ-loop) where
-    abbrev tested : lts.After-has-reached (calls t) (count-at t) counted.Post Inv-loop μ-loop
-    tested = c .before .before
-
-    abbrev now-at : lts.At-loop (calls t) (count-at t) counted.Post Inv-loop μ-loop
-    now-at = turn (tested .before) .before
-
-    -- how many are counted with it
-    so-many : {p : Point} → let a = now-at .before .args in
-        Searching (a .operator) (now (a .plan)) (a .count) (toZ w64 (ofZ w64 (a .value))) (now-at .loop .left) p
-        → now-at .loop .sets + c .count-found .result ≡ now-at .loop .sets + length (found (taking p (now-at .loop .left)) (now-at .loop .left - 1))
-    so-many h = ap (λ (n : ℕ). now-at .loop .sets + n) (c .count-found .ensures _ (taken (trying (tested .before)) h))
-
   add-sets-2 : lts.Need-add-sets-2 (calls t) (count-at t) counted.Post Inv-loop μ-loop
   add-sets-2 c =
-      let d = tested c in
-      let l = turn (d .before) in
-      record {
-        fits =
-            omega (
-              arith,
-              so-many c (asked l .here),
-              more-room (asked l) (trying (d .before)) (d .has-reached .ensures) (c .before .if2 .left),
-              found-few (first l .pre .1 .1),
-            );
-      }
+      let d = c .before .before in
+      let w = d .before in
+      let l = turn w in
+      let more = more-room (asked l) (trying w) (d .has-reached .ensures) (c .before .if2 .left) in
+      record { fits = omega (arith, c .count-found .ensures _ (taken (trying w) (asked l .here)), more, found-few (first l .pre .1 .1)) }
 
   loop-less-2 : lts.Need-loop-less-2 (calls t) (count-at t) counted.Post Inv-loop μ-loop
-  loop-less-2 c = omega (arith, turn (tested c .before) .loop-test .taken)
+  loop-less-2 c = omega (arith, turn (c .before .before .before) .loop-test .taken)
 
   loop-again-2 : lts.Need-loop-again-2 (calls t) (count-at t) counted.Post Inv-loop μ-loop
   loop-again-2 c =
-      let d = tested c in
-      let l = now-at c .loop in (
+      let d = c .before .before in
+      let w = d .before in
+      let l = turn w .before .loop in (
         omega (arith, l .inv .0),
-        λ p h. let u = l .inv .1 p h in more-done u (trying (d .before)) (d .has-reached .ensures) (c .before .if2 .left) (so-many c (u .here)),
+        λ p h.
+            let u = l .inv .1 p h in
+            more-done u (trying w) (d .has-reached .ensures) (c .before .if2 .left) (ap (λ (n : ℕ). l .sets + n) (c .count-found .ensures _ (taken (trying w) (u .here)))),
       )
 
   returns-2 : lts.Need-returns-2 (calls t) (count-at t) counted.Post Inv-loop μ-loop
@@ -171,7 +149,7 @@ pub +count-found-spec : {M : Type 1} → statement M
     (can-reach-requires t)
     (returns t)
     (next-value-requires t)
-    (add-taken t)
+    (add-size t)
     (sub-left t)
     (has-reached-requires t)
     (add-sets t)

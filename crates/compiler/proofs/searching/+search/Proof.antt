@@ -1,25 +1,24 @@
 -- `compiler::searching::search`: what is left to be found is all that is left to be put; each call has fewer rules to come.
 use Prim.Native.Nat.{ℕ, _+_, _<_, _≤_}
-use mathlib.Core.List.{[]}
 use mathlib.Core.Path.{_≡_, refl, sym, ap, _∙_}
 use native.Mathlib.Omega.{arith}
 use borrow.Author.Needs.{needs}
-use borrow.Author.Tests.{not-true, not-false}
+use borrow.Author.Tests.{not-true}
 use borrow.Fn.Kinds.{In}
 use borrow.Fn.PlainCycle.{Measures, is, falls, and}
 use denote.Ref.{now}
 use lib.ListN.{length}
 use mir.Syntax.{w64}
-use mir.Val.{SFits, toZ, ofZ}
+use mir.Val.{toZ, ofZ}
 use mir.ValLaws.{toZ-ofZ}
 use Rattle.peal.specs.Policies.{maskOf}
 use Rattle.layout.proofs.WritingLaws.{put-length, puts-length}
-use Rattle.compiler.specs.Room.{RoomFor}
-use Rattle.compiler.specs.Searching.{Point, taking, found, Searching, putSets, SetsPut}
+use Rattle.layout.specs.Writing.{RoomFor}
+use Rattle.compiler.specs.Searching.{Point, taking, found, Searching, putSets}
 use Rattle.compiler.proofs.RoomLaws.{room-part}
 use Rattle.compiler.proofs.PointLaws.{taken-few, read-back, none-coming, next-small, next-mask, bit-fits}
 use Rattle.compiler.proofs.FoundLaws.{nothing-found, found-none}
-use Rattle.compiler.proofs.SearchTurns.{Underway, Trying, taken, ended, one-room, one-done, more-room, more-done, Put, putting, put-one}
+use Rattle.compiler.proofs.SearchTurns.{Underway, Trying, tries, taken, one-room, one-done, more-room, more-done, putting, put-one, put-ended}
 use Rattle.compiler.proofs.searching.search.Reads as search′
 use Rattle.compiler.proofs.searching.search.Kinds as search-kinds
 use Rattle.compiler.proofs.searching.+search.Lts-search as lts
@@ -96,19 +95,11 @@ module _ (t : ℕ) where
   same-length : lts.Need-same-length (calls t) (search-at t) search′.Post Inv-loop μ-loop
   same-length c = c .before .before .before .loop .inv .2
 
-  -- nothing more is found
-  over : (l : lts.At-loop (calls t) (search-at t) search′.Post Inv-loop μ-loop) {p : Point}
-      → let s = l .before .before in
-      Underway (putting (s .args .last)) (s .args .operator) (now (s .args .plan)) (s .args .count) (toZ w64 (ofZ w64 (s .args .value))) p (s .args .at, now (s .args .words)) (s .args .rank)
-      (l .loop .after, l .loop .words) (l .loop .left)
-      → found p (l .loop .left) ≡ [] → SetsPut (s .args .last) (s .args .at) (now (s .args .words)) (found p (s .args .rank)) (l .loop .after) (l .loop .words)
-  over l u e = let x = ended u e in record { number = ap (λ (y : Put). y .0) x; words = ap (λ (y : Put). y .1) x }
-
   returns : lts.Need-returns (calls t) (search-at t) search′.Post Inv-loop μ-loop
   returns c p h e =
       let l = c .before .before in
       let u = at l .loop .inv .3 p (read-back h (first l .fits .value)) e in
-      over (at l) u (nothing-found (l .loop-test .taken) (u .here) (sym (c .before .can-reach .ensures p (u .here)) ∙ not-true _ (c .if1 .taken)))
+      put-ended u (nothing-found (l .loop-test .taken) (u .here) (sym (c .before .can-reach .ensures p (u .here)) ∙ not-true _ (c .if1 .taken)))
 
   next-value-requires : lts.Need-next-value-requires (calls t) (search-at t) search′.Post Inv-loop μ-loop
   next-value-requires c κs = let l = c .before .before in (omega (arith, few l), next-small (l .loop-test .taken) (asked l .here))
@@ -127,12 +118,7 @@ module _ (t : ℕ) where
         Trying (a .operator) (now (a .plan)) (a .count) (toZ w64 (ofZ w64 (a .value))) (at turn .loop .left) (toZ w64 (ofZ w64 (c .before .next-value .result)))
     trying =
         let v = c .before in
-        let fits : SFits w64 (v .next-value .result) = search needs in
-        record {
-          some = turn .loop-test .taken;
-          reaches = λ p h. sym (v .before .before .can-reach .ensures p h) ∙ not-false _ (v .before .if1 .left);
-          valued = toZ-ofZ w64 (v .next-value .result) fits ∙ v .next-value .ensures;
-        }
+        tries (turn .loop-test .taken) (v .before .before .can-reach .ensures) (v .before .if1 .left) (toZ-ofZ w64 (v .next-value .result) (search needs) ∙ v .next-value .ensures)
 
     -- its mask
     masked : {p : Point} → let a = first turn .args in
@@ -140,8 +126,8 @@ module _ (t : ℕ) where
         → c .next-mask .result ≡ maskOf (taking p (at turn .loop .left) .taken)
     masked h e = c .next-mask .ensures ∙ next-mask (turn .loop-test .taken) h e
 
-  add-taken : lts.Need-add-taken (calls t) (search-at t) search′.Post Inv-loop μ-loop
-  add-taken c = record { fits = omega (arith, few (turn c)) }
+  add-size : lts.Need-add-size (calls t) (search-at t) search′.Post Inv-loop μ-loop
+  add-size c = record { fits = omega (arith, few (turn c)) }
 
   sub-left : lts.Need-sub-left (calls t) (search-at t) search′.Post Inv-loop μ-loop
   sub-left c = omega (arith, turn c .loop-test .taken)
@@ -155,11 +141,10 @@ module _ (t : ℕ) where
   put-line-requires c κs =
       let d = c .before .before in
       let l = turn (d .before) in
-      let r = room l 1 (one-room (asked l) (trying (d .before)) (d .has-reached .ensures) (c .before .if2 .taken)) in
-      (r .begins, r .numbers, omega (arith, r .inside))
+      room l 1 (one-room (asked l) (trying (d .before)) (d .has-reached .ensures) (c .before .if2 .taken))
 
   add-after : lts.Need-add-after (calls t) (search-at t) search′.Post Inv-loop μ-loop
-  add-after c = let p = c .before .before in record { fits = omega (arith, put-line-requires (p .before) (p .put-line .lifetimes) .1) }
+  add-after c = let p = c .before .before in record { fits = omega (arith, put-line-requires (p .before) (p .put-line .lifetimes) .numbers) }
 
   loop-less : lts.Need-loop-less (calls t) (search-at t) search′.Post Inv-loop μ-loop
   loop-less c = omega (arith, turn (c .before .before .before .before .before .before) .loop-test .taken)
@@ -210,11 +195,11 @@ module _ (t : ℕ) where
       let put = p .search .ensures _ (taken (trying w) z) (masked w z (first (turn w) .pre .1 .2)) in (
         omega (arith, l .inv .0),
         omega (arith, l .inv .1, put .number),
-        ap length (put .words) ∙ puts-length (l .words) (l .after) _ ∙ l .inv .2,
+        ap length (put .written) ∙ puts-length (l .words) (l .after) _ ∙ l .inv .2,
         λ q h e.
             let u = l .inv .3 q h e in
             let s = p .search .ensures _ (taken (trying w) (u .here)) (masked w (u .here) e) in
-            more-done u (trying w) (d .has-reached .ensures) (p .before .before .if2 .left) (λ i. (s .number i, s .words i)),
+            more-done u (trying w) (d .has-reached .ensures) (p .before .before .if2 .left) (λ i. (s .number i, s .written i)),
       )
 
   same-length-2 : lts.Need-same-length-2 (calls t) (search-at t) search′.Post Inv-loop μ-loop
@@ -223,7 +208,7 @@ module _ (t : ℕ) where
   returns-2 : lts.Need-returns-2 (calls t) (search-at t) search′.Post Inv-loop μ-loop
   returns-2 c p h e =
       let l = c .before in
-      over l (l .loop .inv .3 p (read-back h (l .before .before .fits .value)) e) (found-none p (l .loop .left) (c .loop-test .left))
+      put-ended (l .loop .inv .3 p (read-back h (l .before .before .fits .value)) e) (found-none p (l .loop .left) (c .loop-test .left))
 
 pub +search-spec : {M : Type 1} → statement M
 +search-spec =
@@ -235,7 +220,7 @@ pub +search-spec : {M : Type 1} → statement M
     (returns t)
     (next-value-requires t)
     (next-mask-requires t)
-    (add-taken t)
+    (add-size t)
     (sub-left t)
     (has-reached-requires t)
     (put-line-requires t)

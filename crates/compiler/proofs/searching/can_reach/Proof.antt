@@ -7,9 +7,9 @@ use denote.Ref.{now}
 use lib.IntN.{ℤ}
 use lib.Signed.{mag}
 use mir.Syntax.{w64}
-use mir.Val.{SFits, toZ, ofZ}
+use mir.Val.{toZ, ofZ}
 use mir.ValLaws.{toZ-ofZ}
-use Rattle.compiler.specs.Planning.{limitIn, restIn}
+use Rattle.compiler.specs.Planning.{planLimit, planRest}
 use Rattle.compiler.proofs.PointLaws.{taken-few, all-small, all-tell}
 use Rattle.compiler.proofs.searching.can_reach.Statement.{statement}
 use Rattle.compiler.proofs.searching.can_reach.Tie as tie
@@ -49,24 +49,22 @@ combined-requires : tie.Need-combined-requires
 combined-requires c κs =
     let s = c .before .before in
     all-small (s .pre .1) (value-back s)
-    (toZ-ofZ w64 (restIn (now (s .args .plan)) (s .args .left)) (record { sfits = c .rest .given }))
+    (toZ-ofZ w64 (planRest (now (s .args .plan)) (s .args .left)) (record { sfits = c .rest .given }))
 
 is-reached-requires : tie.Need-is-reached-requires
 is-reached-requires c κs =
-    let fits : SFits w64 (c .combined .result) = search needs in
-    subst (λ (z : ℤ). mag z ≤ 10 ^ 16) (sym (toZ-ofZ w64 (c .combined .result) fits ∙ c .combined .ensures)) (combined-requires (c .before) κs)
+    subst (λ (z : ℤ). mag z ≤ 10 ^ 16) (sym (toZ-ofZ w64 (c .combined .result) (search needs) ∙ c .combined .ensures)) (combined-requires (c .before) κs)
 
 returns : tie.Need-returns
 returns c p h =
     let d = c .before in
     let r = d .before in
     let s = r .before .before in
-    let fits : SFits w64 (d .combined .result) = search needs in
     c .is-reached .ensures
     ∙ all-tell h (value-back s)
-    (toZ-ofZ w64 (restIn (now (s .args .plan)) (s .args .left)) (record { sfits = r .rest .given }))
-    (toZ-ofZ w64 (limitIn (now (s .args .plan)) (s .args .count + s .args .left)) (record { sfits = r .before .limit .given }))
-    (toZ-ofZ w64 (d .combined .result) fits ∙ d .combined .ensures)
+    (toZ-ofZ w64 (planRest (now (s .args .plan)) (s .args .left)) (record { sfits = r .rest .given }))
+    (toZ-ofZ w64 (planLimit (now (s .args .plan)) (s .args .count + s .args .left)) (record { sfits = r .before .limit .given }))
+    (toZ-ofZ w64 (d .combined .result) (search needs) ∙ d .combined .ensures)
 
 pub can-reach-spec : {M : Type 1} → statement M
 can-reach-spec =

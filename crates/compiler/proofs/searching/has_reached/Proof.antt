@@ -8,7 +8,7 @@ use lib.Signed.{mag}
 use mir.Syntax.{w64}
 use mir.Val.{toZ, ofZ}
 use mir.ValLaws.{toZ-ofZ}
-use Rattle.compiler.specs.Planning.{limitIn}
+use Rattle.compiler.specs.Planning.{planLimit}
 use Rattle.compiler.proofs.PointLaws.{taken-few, taken-small, taken-tells}
 use Rattle.compiler.proofs.searching.has_reached.Statement.{statement}
 use Rattle.compiler.proofs.searching.has_reached.Tie as tie
@@ -39,7 +39,7 @@ returns c p h =
     let s = c .before .before in
     c .is-reached .ensures
     ∙ taken-tells h
-    (toZ-ofZ w64 (limitIn (now (s .args .plan)) (s .args .count)) (record { sfits = c .before .is-reached-arg .given })) (value-back s)
+    (toZ-ofZ w64 (planLimit (now (s .args .plan)) (s .args .count)) (record { sfits = c .before .is-reached-arg .given })) (value-back s)
 
 pub has-reached-spec : {M : Type 1} → statement M
 has-reached-spec =

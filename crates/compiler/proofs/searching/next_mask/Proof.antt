@@ -8,7 +8,7 @@ use lib.IntN.{ℤ, natAbs}
 use mir.Syntax.{w64}
 use mir.Val.{toZ, ofZ}
 use mir.ValLaws.{toZ-ofZ}
-use Rattle.compiler.specs.Planning.{bitIn}
+use Rattle.compiler.specs.Planning.{planBit}
 use Rattle.compiler.specs.Searching.{BitFits}
 use Rattle.compiler.proofs.searching.next_mask.Statement.{statement}
 use Rattle.compiler.proofs.searching.next_mask.Tie as tie
@@ -26,10 +26,10 @@ element-copy-out-result : tie.Need-element-copy-out-result
 element-copy-out-result c = search needs
 
 -- the bit, as it is read back
-back : (c : tie.After-result) → let a = c .before .args in bitIn (now (a .plan)) (a .left) ≡ toZ w64 (ofZ w64 (bitIn (now (a .plan)) (a .left)))
-back c = let a = c .before .args in sym (toZ-ofZ w64 (bitIn (now (a .plan)) (a .left)) (record { sfits = c .result .given }))
+back : (c : tie.After-result) → let a = c .before .args in planBit (now (a .plan)) (a .left) ≡ toZ w64 (ofZ w64 (planBit (now (a .plan)) (a .left)))
+back c = let a = c .before .args in sym (toZ-ofZ w64 (planBit (now (a .plan)) (a .left)) (record { sfits = c .result .given }))
 
-fits : (c : tie.After-result) → let a = c .before .args in BitFits (a .mask) (toZ w64 (ofZ w64 (bitIn (now (a .plan)) (a .left))))
+fits : (c : tie.After-result) → let a = c .before .args in BitFits (a .mask) (toZ w64 (ofZ w64 (planBit (now (a .plan)) (a .left))))
 fits c = subst (BitFits (c .before .args .mask)) (back c) (c .before .pre .1)
 
 cast-result : tie.Need-cast-result

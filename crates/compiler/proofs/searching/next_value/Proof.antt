@@ -3,10 +3,9 @@ use mathlib.Core.Path.{ap₂, _∙_}
 use borrow.Author.Needs.{needs}
 use denote.Ref.{now}
 use mir.Syntax.{w64}
-use mir.Val.{SFits}
 use mir.ValLaws.{toZ-ofZ}
 use Rattle.peal.specs.Combining.{combinedOf}
-use Rattle.compiler.specs.Planning.{scoreIn}
+use Rattle.compiler.specs.Planning.{planScore}
 use Rattle.compiler.proofs.searching.next_value.Statement.{statement}
 use Rattle.compiler.proofs.searching.next_value.Tie as tie
 
@@ -28,10 +27,9 @@ combined-requires c κs = search needs
 returns : tie.Need-returns
 returns c =
     let s = c .before .before in
-    let fits : SFits w64 (c .combined .result) = search needs in
-    toZ-ofZ w64 (c .combined .result) fits ∙ c .combined .ensures
+    toZ-ofZ w64 (c .combined .result) (search needs) ∙ c .combined .ensures
     ∙ ap₂ (combinedOf (s .args .operator)) (toZ-ofZ w64 (s .args .value) (s .fits .value))
-    (toZ-ofZ w64 (scoreIn (now (s .args .plan)) (s .args .left)) (record { sfits = c .before .combined-arg .given }))
+    (toZ-ofZ w64 (planScore (now (s .args .plan)) (s .args .left)) (record { sfits = c .before .combined-arg .given }))
 
 pub next-value-spec : {M : Type 1} → statement M
 next-value-spec =

@@ -1,4 +1,4 @@
--- `compiler::nodes::is_met`: hundredths are compared as they are.
+-- `compiler::nodes::default_meets`: hundredths are compared as they are.
 use Prim.Native.Nat.{_^_}
 use mathlib.Core.Path.{sym, ap, ap₂, _∙_}
 use native.Mathlib.Omega.{arith}
@@ -9,8 +9,8 @@ use mir.ValLaws.{toZ-ofZ}
 use Rattle.arith.proofs.Order.{leZ-scale, ltZ-scale}
 use Rattle.peal.specs.Score.{scaled, meets}
 use Rattle.peal.specs.declared.Sense.{Sense}
-use Rattle.compiler.proofs.nodes.is_met.Statement.{statement}
-use Rattle.compiler.proofs.nodes.is_met.Tie as tie
+use Rattle.compiler.proofs.nodes.default_meets.Statement.{statement}
+use Rattle.compiler.proofs.nodes.default_meets.Tie as tie
 
 enum-told : tie.Need-enum-told
 enum-told c = search needs
@@ -34,5 +34,5 @@ returns-2 c =
     ap₂ leZ (toZ-ofZ w32 (a .default) (s .fits .default)) (toZ-ofZ w32 (a .threshold) (s .fits .threshold)) ∙ sym (leZ-scale (a .default) (a .threshold) (10 ^ 14) (omega arith))
     ∙ ap (λ (x : Sense). meets x (a .threshold) (scaled (a .default))) (sym (c .enum-told2 .given .1))
 
-pub is-met-spec : {M : Type 1} → statement M
-is-met-spec = tie.close (tie.spec enum-told enum-told-2 returns returns-2)
+pub default-meets-spec : {M : Type 1} → statement M
+default-meets-spec = tie.close (tie.spec enum-told enum-told-2 returns returns-2)
