@@ -7,6 +7,15 @@ ghost use Rattle.arith.specs.Lists.{countBelow};
 ghost use Rattle.signals.specs.Sets.{present, overlap};
 ghost use Rattle.blocks.specs.Blocks.{WordOf, BlockOf, without};
 
+// How many sets a block has.
+pub const BLOCK_SETS: u32 = 64;
+
+// The place of a block's last set.
+pub const LAST_PLACE: u32 = BLOCK_SETS - 1;
+
+// How many signals tell a block's sets apart: the lowest.
+const BLOCK_SIGNALS: u32 = 6;
+
 // Every set of a block.
 const ALL: u64 = 0xffffffffffffffff;
 
@@ -60,7 +69,7 @@ pub fn low_overlap(low: u32) -> u64
 {
     let mut word: u64 = 0;
     let mut signal: u32 = 0;
-    while signal < 6 {
+    while signal < BLOCK_SIGNALS {
         word = sharing(low, signal) | word;
         signal += 1;
     }
@@ -72,7 +81,11 @@ pub fn block_overlap(mask: u32, low: u64, block: u32) -> u64
     requires { ⌜ (mask ≤ 65535) × (block ≤ 1023) × WordOf (overlap (mask % 64)) low ⌝ }
     ensures { λ r. ⌜ BlockOf (overlap mask) block r ⌝ }
 {
-    if mask / 64 & block == 0 { low } else { ALL }
+    if mask / BLOCK_SETS & block == 0 {
+        low
+    } else {
+        ALL
+    }
 }
 
 // How many of the word's bits are zero, up to bit `last`, which is looked at too.
@@ -80,5 +93,5 @@ pub fn zeros_up_to(word: u64, last: u32) -> u32
     requires { ⌜ last < 64 ⌝ }
     ensures { λ r. ⌜ r ≡ countBelow (last + 1) (λ j. not (present word j)) ⌝ }
 {
-    u64::count_ones(!word << (63 - last))
+    u64::count_ones(!word << (LAST_PLACE - last))
 }

@@ -15,7 +15,7 @@ ghost use Rattle.checks.specs.Meaning.{choiceMeaning, comparisonMeaning}
 ghost use Rattle.checks.specs.Walking.{foundMeaning, chosenBy, HasBlocks, LowestIn, apartBit, LowestApart, PermittedUpTo};
 
 // How many groups of 1,024 signal sets there are.
-const GROUPS: u32 = 64;
+const GROUPS: u32 = groups::HIGHEST_GROUP + 1;
 
 // The lowest set, if there is one.
 enum Found {
@@ -42,7 +42,7 @@ fn lowest_in(block: u32, word: u64) -> u16
     requires { ⌜ (block ≤ 1023) × (0 < word) ⌝ }
     ensures { λ r. ⌜ LowestIn block word r ⌝ }
 {
-    (64 * block + u64::trailing_zeros(word)) as u16
+    (blocks::BLOCK_SETS * block + u64::trailing_zeros(word)) as u16
 }
 
 // The sets that are barred by neither, and on which the two differ.
@@ -63,7 +63,7 @@ fn lowest_apart(barred: &[u64], also: &[u64], first: &[u64], second: &[u64], gro
     while k < groups::TABLE_WORDS {
         let word = apart_word(barred[k], also[k], first[k], second[k]);
         if word != 0 {
-            return Found::At(lowest_in(16 * group + k as u32, word));
+            return Found::At(lowest_in(groups::GROUP_BLOCKS * group + k as u32, word));
         }
         k += 1;
     }
@@ -103,11 +103,11 @@ fn permitted_up_to(barred: &[u64], pairs: usize, last: u32) -> u32
     }
     let mut count: u32 = 0;
     let mut k: usize = 0;
-    while k < (last / 64) as usize {
-        count += blocks::zeros_up_to(barred[k], 63);
+    while k < (last / blocks::BLOCK_SETS) as usize {
+        count += blocks::zeros_up_to(barred[k], blocks::LAST_PLACE);
         k += 1;
     }
-    count + blocks::zeros_up_to(barred[k], last % 64)
+    count + blocks::zeros_up_to(barred[k], last % blocks::BLOCK_SETS)
 }
 
 // From what the empty set gives, the lowest set that gives the other answer, and how many sets were judged.

@@ -12,21 +12,27 @@ ghost use Rattle.rod.specs.Values.{joinMeaning, nodeEnd};
 ghost use Rattle.groups.specs.Groups.{GroupOf, masksFrom, MasksAt, pairCount, SoundWith, Added, Gathered, Spread, AllSpread};
 ghost use Rattle.groups.specs.Values.{policyBit, EvenPut, BlocksPut, Said, JoinPut, PolicyHere, GroupUnderway};
 
-// A word for each block of a group.
-pub const TABLE_WORDS: usize = 16;
+// How many blocks a group has.
+pub const GROUP_BLOCKS: u32 = 16;
+
+// A word for each of them.
+pub const TABLE_WORDS: usize = GROUP_BLOCKS as usize;
 
 pub type Table = [u64; TABLE_WORDS];
 
-// A listing has at most sixteen values at a time, and each is a table.
-pub const VALUE_WORDS: usize = 256;
+// A listing has at most so many values at a time.
+const MOST_VALUES: usize = 16;
+
+// Each value is a table.
+pub const VALUE_WORDS: usize = MOST_VALUES * TABLE_WORDS;
 
 type Values = [u64; VALUE_WORDS];
 
 // How many sets a group has.
-pub const GROUP_SETS: u32 = 1024;
+pub const GROUP_SETS: u32 = GROUP_BLOCKS * blocks::BLOCK_SETS;
 
 // The last group: its number is that of the six highest signals.
-const HIGHEST_GROUP: u32 = 63;
+pub const HIGHEST_GROUP: u32 = signals::HIGHEST_SET / GROUP_SETS;
 
 // How many excluded pairs the listing begins with.
 pub fn pair_count(words: &[u32]) -> usize
@@ -56,11 +62,14 @@ fn add_mask(table: &mut Table, mask: u32, group: u32)
     ensures { λ _. ⌜ Added mask group (now (table .entry)) (now (table .exit)) ⌝ }
 {
     if is_within(mask, group) {
-        let bit: u64 = 1 << (mask % 64);
-        let k = (mask / 64 % 16) as usize;
+        let bit: u64 = 1 << (mask % blocks::BLOCK_SETS);
+        let k = (mask / blocks::BLOCK_SETS % GROUP_BLOCKS) as usize;
         table[k] = table[k] | bit;
     }
 }
+
+// Records are gathered so many at a turn.
+const TURN_RECORDS: usize = 4;
 
 // Of four records in a row the mask of the second.
 const SECOND_MASK: usize = layout::RECORD_WORDS + layout::MASK;
@@ -72,7 +81,7 @@ const THIRD_MASK: usize = 2 * layout::RECORD_WORDS + layout::MASK;
 const FOURTH_MASK: usize = 3 * layout::RECORD_WORDS + layout::MASK;
 
 // How many words the four have.
-const FOUR_RECORDS: usize = 4 * layout::RECORD_WORDS;
+const FOUR_RECORDS: usize = TURN_RECORDS * layout::RECORD_WORDS;
 
 // The masks of the records from index `from` up to `end` are put into the table, four at a turn (docs/DECISIONS.md, D37).
 fn gather_fours(words: &[u32], from: usize, end: usize, group: u32, table: &mut Table)
@@ -106,7 +115,7 @@ pub fn gather(words: &[u32], from: usize, end: usize, group: u32, table: &mut Ta
     requires { ⌜ (length (now table) ≡ 16) × (group ≤ 63) × MasksAt (now words) from end ⌝ }
     ensures { λ _. ⌜ Gathered (now (words .entry)) from end group (now (table .entry)) (now (table .exit)) ⌝ }
 {
-    let rest = end - (end - from) % 4;
+    let rest = end - (end - from) % TURN_RECORDS;
     gather_fours(words, from, rest, group, table);
     gather_rest(words, rest, end, group, table);
 }
@@ -180,7 +189,7 @@ fn is_even(mask: u32, group: u32) -> bool
     requires { ⌜ group ≤ 63 ⌝ }
     ensures { λ r. ⌜ r ≡ (eqb (mask / 64 % 16) 0 || overlap (mask / 1024) group) ⌝ }
 {
-    mask / 64 % 16 == 0 || mask / GROUP_SETS & group != 0
+    mask / blocks::BLOCK_SETS % GROUP_BLOCKS == 0 || mask / GROUP_SETS & group != 0
 }
 
 // The policy's words, each by one and the same word of its overlap.
@@ -212,7 +221,7 @@ fn put_blocks(
 {
     let mut k: usize = 0;
     while k < TABLE_WORDS {
-        let shared = blocks::block_overlap(mask, low, 16 * group + k as u32);
+        let shared = blocks::block_overlap(mask, low, GROUP_BLOCKS * group + k as u32);
         values[height * TABLE_WORDS + k] = policy_word(shared, found[k], turn, still);
         k += 1;
     }
@@ -235,10 +244,10 @@ fn put_policy(
 {
     let mask = words[at * layout::RECORD_WORDS + layout::MASK];
     let found = lines_inside(words, at + 1, end, group);
-    let low = blocks::low_overlap(mask % 64);
+    let low = blocks::low_overlap(mask % blocks::BLOCK_SETS);
     let turn = blocks::all_if(turned);
     let still = blocks::all_if(quiet);
-    let shared = blocks::block_overlap(mask, low, 16 * group);
+    let shared = blocks::block_overlap(mask, low, GROUP_BLOCKS * group);
     // Put so in any case, and again where it is not even: faster than to choose (docs/DECISIONS.md, D37).
     put_even(values, height, found, shared, turn, still);
     if is_even(mask, group) {

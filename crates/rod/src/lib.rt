@@ -22,14 +22,16 @@ fn is_inside(words: &[u32], i: usize, set: u16) -> bool
     line & set as u32 == line
 }
 
+// Lines are taken so many at a turn: the test of the end costs as much as a line's.
+const TURN_LINES: usize = 4;
+
 // Some line of the records from index `from` up to `end`, all of them lines, lies wholly inside the set.
 fn some_line(words: &[u32], from: usize, end: usize, set: u16) -> bool
     requires { ⌜ LinesTo (now words) from end ⌝ }
     ensures { λ r. ⌜ r ≡ someLine (leadingLines (recordsFrom (now (words .entry)) from)) set ⌝ }
 {
     let mut i = from;
-    // Four at a time: the test of the end costs as much as a line's.
-    while 4 <= end - i {
+    while TURN_LINES <= end - i {
         if is_inside(words, i, set) {
             return true;
         }
@@ -42,7 +44,7 @@ fn some_line(words: &[u32], from: usize, end: usize, set: u16) -> bool
         if is_inside(words, i + 3, set) {
             return true;
         }
-        i += 4;
+        i += TURN_LINES;
     }
     while i < end {
         if is_inside(words, i, set) {
