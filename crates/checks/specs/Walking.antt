@@ -43,8 +43,8 @@ GroupApart test group barred also one two =
     → apartBit (getD barred k 0) (getD also k 0) (getD one k 0) (getD two k 0) j ≡ test (64 * (16 * group + k) + j)
 
 -- what was found is the lowest set of the group that passes such a test
-abbrev pub LowestApart : ℕ → (barred also one two : List ℕ) → Found → Type 0
-LowestApart group barred also one two found =
+abbrev pub LowestInGroup : ℕ → (barred also one two : List ℕ) → Found → Type 0
+LowestInGroup group barred also one two found =
     (test : ℕ → Bool) → GroupApart test group barred also one two → foundMeaning found ≡ lowestFrom 1024 (1024 * group) test
 
 -- where a table tells which sets of a group fail a test, and without pairs none fails: so many of them pass it, up to the one of place

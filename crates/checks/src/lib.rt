@@ -12,7 +12,7 @@ ghost use Rattle.layout.specs.Judgement.{verdict};
 ghost use Rattle.groups.specs.Groups.{GroupOf, SoundWith};
 ghost use Rattle.checks.specs.Checks.{permitted, lowestSet, chosen, differAt, comparison};
 ghost use Rattle.checks.specs.Meaning.{choiceMeaning, comparisonMeaning};
-ghost use Rattle.checks.specs.Walking.{foundMeaning, chosenBy, HasBlocks, LowestIn, apartBit, LowestApart, PermittedUpTo};
+ghost use Rattle.checks.specs.Walking.{foundMeaning, chosenBy, HasBlocks, LowestIn, apartBit, LowestInGroup, PermittedUpTo};
 
 // How many groups of 1,024 signal sets there are.
 const GROUPS: u32 = groups::HIGHEST_GROUP + 1;
@@ -56,7 +56,7 @@ fn apart_word(barred: u64, also: u64, first: u64, second: u64) -> u64
 fn lowest_apart(barred: &[u64], also: &[u64], first: &[u64], second: &[u64], group: u32) -> Found
     requires { ⌜ (group ≤ 63) × HasBlocks (now barred) × HasBlocks (now also) ⌝ }
     requires { ⌜ HasBlocks (now first) × HasBlocks (now second) ⌝ }
-    ensures { λ r. ⌜ LowestApart group (now (barred .entry)) (now (also .entry))
+    ensures { λ r. ⌜ LowestInGroup group (now (barred .entry)) (now (also .entry))
         (now (first .entry)) (now (second .entry)) r ⌝ }
 {
     let mut k: usize = 0;
@@ -163,8 +163,8 @@ fn sound_choice(words: &[u32]) -> ChoiceAnswer
 pub fn choice(words: &[u32]) -> ChoiceAnswer
     ensures { λ r. ⌜ choiceMeaning r ≡ chosen (now (words .entry)) ⌝ }
 {
-    let v = layout::check(words);
-    match v {
+    let verdict = layout::check(words);
+    match verdict {
         layout::Verdict::Sound => sound_choice(words),
         layout::Verdict::Declined(fault) => ChoiceAnswer::Declined(fault),
     }
@@ -185,9 +185,9 @@ fn lowest_difference(one: &[u32], two: &[u32]) -> Found
         let also = group_barred(two, others, group);
         groups::reading(one, pairs, group, &mut firsts);
         groups::reading(two, others, group, &mut seconds);
-        let f = lowest_apart(&barred, &also, &firsts, &seconds, group);
-        let Found::Nowhere = f else {
-            return f;
+        let found = lowest_apart(&barred, &also, &firsts, &seconds, group);
+        let Found::Nowhere = found else {
+            return found;
         };
         group += 1;
     }
@@ -209,8 +209,8 @@ fn sound_comparison(one: &[u32], two: &[u32]) -> ComparisonAnswer
     requires { ⌜ (verdict (now one) ≡ result tt) × (verdict (now two) ≡ result tt) ⌝ }
     ensures { λ r. ⌜ comparisonMeaning r ≡ comparison (now (one .entry)) (now (two .entry)) ⌝ }
 {
-    let f = lowest_difference(one, two);
-    match f {
+    let found = lowest_difference(one, two);
+    match found {
         Found::At(set) => {
             if rod::reading(one, set) {
                 ComparisonAnswer::FirstYes(set)
@@ -226,11 +226,11 @@ fn sound_comparison(one: &[u32], two: &[u32]) -> ComparisonAnswer
 pub fn compare(one: &[u32], two: &[u32]) -> ComparisonAnswer
     ensures { λ r. ⌜ comparisonMeaning r ≡ comparison (now (one .entry)) (now (two .entry)) ⌝ }
 {
-    let v = layout::check(one);
-    match v {
+    let verdict = layout::check(one);
+    match verdict {
         layout::Verdict::Sound => {
-            let w = layout::check(two);
-            match w {
+            let other = layout::check(two);
+            match other {
                 layout::Verdict::Sound => sound_comparison(one, two),
                 layout::Verdict::Declined(fault) => ComparisonAnswer::SecondDeclined(fault),
             }

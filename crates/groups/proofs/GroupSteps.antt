@@ -18,7 +18,7 @@ use Rattle.layout.proofs.KeptLaws.{kept-policy, kept-join, no-owner}
 use Rattle.layout.proofs.SoundNodes.{sound-well-formed}
 use Rattle.layout.proofs.Places.{from-nil}
 use Rattle.rod.specs.Reading.{policyValue, joined, says}
-use Rattle.rod.specs.Values.{policyAt, nodeEnd}
+use Rattle.rod.specs.Values.{listedAt, nodeEnd}
 use Rattle.rod.proofs.Steps.{step, node-after, policy-lines, taken-here, first-node}
 use Rattle.groups.specs.Groups.{GroupOf, SoundWith}
 use Rattle.groups.specs.Values.{valueWord, PolicyWord, PolicyPut, JoinedWord, JoinPut, PolicyHere, heldWords, column, GroupUnderway}
@@ -31,21 +31,21 @@ module _ (Told : ℕ → ℕ → Type 0) (height : ℕ) (values left : List ℕ)
   held-below : (n : ℕ) → n ≤ height → heldWords left k n ≡ heldWords values k n
   unfolding heldWords
   held-below zero h = refl
-  held-below (suc n) h = ap₂ (λ (x : ℕ) (xs : List ℕ). x ∷ xs) (w .others (n * 16 + k) (λ m l e. omega arith)) (held-below n (omega arith))
+  held-below (suc n) h = ap₂ (λ (x : ℕ) (xs : List ℕ). x ∷ xs) (w .others (valueWord n k) (λ m l e. omega arith)) (held-below n (omega arith))
 
-  held-more : heldWords left k (height + 1) ≡ getD left (height * 16 + k) 0 ∷ heldWords values k height
+  held-more : heldWords left k (height + 1) ≡ getD left (valueWord height k) 0 ∷ heldWords values k height
   unfolding heldWords
-  held-more = rw (add-one height) (ap (λ (xs : List ℕ). getD left (height * 16 + k) 0 ∷ xs) (held-below height (omega arith)))
+  held-more = rw (add-one height) (ap (λ (xs : List ℕ). getD left (valueWord height k) 0 ∷ xs) (held-below height (omega arith)))
 
 -- the last two
-held-two : (values : List ℕ) (k height : ℕ) → heldWords values k (height + 2) ≡ getD values (height * 16 + 16 + k) 0 ∷ getD values (height * 16 + k) 0 ∷ heldWords values k height
+held-two : (values : List ℕ) (k height : ℕ) → heldWords values k (height + 2) ≡ getD values (valueWord (height + 1) k) 0 ∷ getD values (valueWord height k) 0 ∷ heldWords values k height
 unfolding heldWords
-held-two values k height = ap (heldWords values k) (two height) ∙ ap (λ (i : ℕ). getD values i 0 ∷ getD values (height * 16 + k) 0 ∷ heldWords values k height) (next height k)
+held-two values k height = ap (heldWords values k) (two height) ∙ ap (λ (i : ℕ). getD values i 0 ∷ getD values (valueWord height k) 0 ∷ heldWords values k height) (next height k)
   where
     two : (n : ℕ) → n + 2 ≡ suc (suc n)
     two n = omega arith
 
-    next : (n i : ℕ) → suc n * 16 + i ≡ n * 16 + 16 + i
+    next : (n i : ℕ) → suc n * 16 + i ≡ (n + 1) * 16 + i
     next n i = omega arith
 
 -- ---- the way
@@ -61,30 +61,30 @@ module _ (ws : List ℕ) (group at : ℕ) (values : List ℕ) (height : ℕ) (lt
   after ns k j stack = getD (run joined (policyValue (64 * (16 * group + k) + j)) ns stack) 0 false
 
   -- a policy adds its words
-  module _ (q t : Bool) (e : policy q t ≡ kindOf (getD ws (at * 4) 0)) where
+  module _ (quiet turned : Bool) (e : policy quiet turned ≡ kindOf (getD ws (at * 4) 0)) where
     kept : (getD ws (at * 4 + 1) 0 ≤ 65535) × (u .node .above .policies + 1 ≤ 16)
-    kept = let k = kept-policy (at + 1) (u .node .above) (recordAt ws at) (kinds (recordsFrom ws (at + 1))) q t (step ws at lt (u .node) (policy q t) e .0) in (k .0, k .3)
+    kept = let k = kept-policy (at + 1) (u .node .above) (recordAt ws at) (kinds (recordsFrom ws (at + 1))) quiet turned (step ws at lt (u .node) (policy quiet turned) e .0) in (k .0, k .3)
 
     pub policy-here : (end : ℕ) → end ≡ nodeEnd ws at → PolicyHere ws at end
-    policy-here end n = record { within = lt; set = kept .0; lines = policy-lines ws at lt (u .node) q t e end n }
+    policy-here end n = record { within = lt; set = kept .0; lines = policy-lines ws at lt (u .node) quiet turned e end n }
 
     pub policy-room : height < 16
     policy-room = omega (arith, kept .1, u .few, u .level)
 
-    pub past-group-policy : (left : List ℕ) → PolicyPut (policyAt ws at q t) group height values left → GroupUnderway ws group (nodeEnd ws at) left (height + 1)
+    pub past-group-policy : (left : List ℕ) → PolicyPut (listedAt ws at quiet turned) group height values left → GroupUnderway ws group (nodeEnd ws at) left (height + 1)
     unfolding soFarAfter nodeThen run node-after column
     past-group-policy left s =
         record {
           within = u .within;
           room = s .room ∙ u .room;
-          node = node-after ws at lt (u .node) (policy q t) e;
+          node = node-after ws at lt (u .node) (policy quiet turned) e;
           level = omega (arith, u .level);
           few = omega (arith, u .few);
           atMost = kept .1;
           same = λ k b j h.
-              ap (λ (held : List ℕ). after (nodes (recordsFrom ws (nodeEnd ws at))) k j (column j held)) (held-more (PolicyWord (policyAt ws at q t) group) height values left s k b)
+              ap (λ (held : List ℕ). after (nodes (recordsFrom ws (nodeEnd ws at))) k j (column j held)) (held-more (PolicyWord (listedAt ws at quiet turned) group) height values left s k b)
               ∙ ap (λ (x : Bool). after (nodes (recordsFrom ws (nodeEnd ws at))) k j (x ∷ column j (heldWords values k height))) (s .told k b j h)
-              ∙ taken-here ws at lt (u .node) (64 * (16 * group + k) + j) (column j (heldWords values k height)) (policy q t) e
+              ∙ taken-here ws at lt (u .node) (64 * (16 * group + k) + j) (column j (heldWords values k height)) (policy quiet turned) e
               ∙ u .same k b j h;
         }
 

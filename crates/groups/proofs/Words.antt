@@ -57,9 +57,14 @@ module _ (a b : ℕ) (o : Bool) where
 
 -- from two words that are in the table by now, where the joined ones before them stand
 pub joined-here : (o : Join) (values : List ℕ) (height n : ℕ) (left : List ℕ) → Written (valueWord height) (JoinedWord o height values) n values left → (word : ℕ)
-    → WordOf (λ j. joined o (present (getD left (height * 16 + n) 0) j) (present (getD left (height * 16 + 16 + n) 0) j)) word → JoinedWord o height values n word
+    → WordOf (λ j. joined o (present (getD left (valueWord height n) 0) j) (present (getD left (height * 16 + 16 + n) 0) j)) word → JoinedWord o height values n word
 joined-here o values height n left w word t j h =
-    t j h ∙ ap₂ (λ (x y : ℕ). joined o (present x j) (present y j)) (w .others (height * 16 + n) (λ k l e. omega arith)) (w .others (height * 16 + 16 + n) (λ k l e. omega arith))
+    t j h
+    ∙ ap₂ (λ (x y : ℕ). joined o (present x j) (present y j)) (w .others (valueWord height n) (λ k l e. omega arith))
+    (w .others (height * 16 + 16 + n) (λ k l e. omega arith) ∙ ap (λ (i : ℕ). getD values i 0) next)
+  where
+    next : height * 16 + 16 + n ≡ valueWord (height + 1) n
+    next = omega arith
 
 -- by the word of an overlap
 pub block-told : (mask group : ℕ) (found : List ℕ) (turn still k over word : ℕ) → BlockOf (overlap mask) (16 * group + k) over

@@ -12,7 +12,7 @@ use Rattle.answers.specs.Answers.{result}
 use Rattle.layout.specs.Records.{records}
 use Rattle.layout.specs.Judgement.{verdict}
 use Rattle.layout.specs.Nodes.{excluded}
-use Rattle.rod.specs.Values.{lineAt, AllSets}
+use Rattle.rod.specs.Values.{maskAt, AllSets}
 
 -- the words of a table tell the test of the 16 blocks of a group, from 16 * group on
 abbrev pub GroupOf : (ℕ → Bool) → ℕ → List ℕ → Type 0
@@ -21,7 +21,7 @@ GroupOf test group table = (k : ℕ) → k < 16 → BlockOf test (16 * group + k
 -- the masks of so many records from an index on
 unfoldable pub masksFrom : List ℕ → ℕ → ℕ → List ℕ
 masksFrom ws at zero = []
-masksFrom ws at (suc count) = lineAt ws at ∷ masksFrom ws (at + 1) count
+masksFrom ws at (suc count) = maskAt ws at ∷ masksFrom ws (at + 1) count
 
 -- the records from one index up to another have signal sets as masks
 pub record MasksAt (ws : List ℕ) (from end : ℕ) : Type 0 where

@@ -12,7 +12,7 @@ use Rattle.layout.specs.Records.{Join}
 use Rattle.layout.specs.Nodes.{ListedPolicy, nodes}
 use Rattle.layout.specs.Steps.{recordsFrom}
 use Rattle.rod.specs.Reading.{policyValue, joined, says}
-use Rattle.rod.specs.Values.{lineAt, LinesTo, policyAt, NodeAt}
+use Rattle.rod.specs.Values.{maskAt, LinesTo, listedAt, NodeAt}
 
 -- where word k of the value at a height stands
 abbrev pub valueWord : ℕ → ℕ → ℕ
@@ -28,7 +28,7 @@ PolicyPut p group height values left = Written (valueWord height) (PolicyWord p 
 
 -- what the policy at an index says is put at this height
 abbrev pub Said : List ℕ → ℕ → Bool → Bool → ℕ → ℕ → List ℕ → List ℕ → Type 0
-Said ws at quiet turned group height values left = PolicyPut (policyAt ws at quiet turned) group height values left
+Said ws at quiet turned group height values left = PolicyPut (listedAt ws at quiet turned) group height values left
 
 -- bit j of a policy's word, by the words of its overlap and of the lines inside, and by two that are all sets or none, for turned and for quiet
 abbrev pub policyBit : ℕ → ℕ → ℕ → ℕ → ℕ → Bool
@@ -51,7 +51,7 @@ BlocksPut mask group found turn still height values left = Written (valueWord he
 -- word k joins those of the value at this height and of the next
 abbrev pub JoinedWord : Join → ℕ → List ℕ → ℕ → ℕ → Type 0
 JoinedWord join height values k word =
-    WordOf (λ j. joined join (present (getD values (height * 16 + k) 0) j) (present (getD values (height * 16 + 16 + k) 0) j)) word
+    WordOf (λ j. joined join (present (getD values (valueWord height k) 0) j) (present (getD values (valueWord (height + 1) k) 0) j)) word
 
 -- the value at this height and the next are joined
 abbrev pub JoinPut : Join → ℕ → List ℕ → List ℕ → Type 0
@@ -60,13 +60,13 @@ JoinPut join height values left = Written (valueWord height) (JoinedWord join he
 -- the record at this index has a signal set as mask, and so have its lines, which end before index `end`
 pub record PolicyHere (ws : List ℕ) (at end : ℕ) : Type 0 where
   pub within : at < length ws / 4
-  pub set : lineAt ws at ≤ 65535
+  pub set : maskAt ws at ≤ 65535
   pub lines : LinesTo ws (at + 1) end
 
 -- word k of each of the first `height` values, the last first
 unfoldable pub heldWords : List ℕ → ℕ → ℕ → List ℕ
 heldWords values k zero = []
-heldWords values k (suc height) = getD values (height * 16 + k) 0 ∷ heldWords values k height
+heldWords values k (suc height) = getD values (valueWord height k) 0 ∷ heldWords values k height
 
 -- what these words tell of set j of the block
 unfoldable pub column : ℕ → List ℕ → List Bool

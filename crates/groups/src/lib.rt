@@ -62,9 +62,9 @@ fn add_mask(table: &mut Table, mask: u32, group: u32)
     ensures { λ _. ⌜ Added mask group (now (table .entry)) (now (table .exit)) ⌝ }
 {
     if is_within(mask, group) {
-        let bit: u64 = 1 << (mask % blocks::BLOCK_SETS);
+        let marked: u64 = 1 << (mask % blocks::BLOCK_SETS);
         let k = (mask / blocks::BLOCK_SETS % GROUP_BLOCKS) as usize;
-        table[k] = table[k] | bit;
+        table[k] = table[k] | marked;
     }
 }
 
@@ -290,8 +290,8 @@ fn after_node(
     requires { ⌜ GroupUnderway (now words) group at (now values) height ⌝ }
     ensures { λ r. ⌜ GroupUnderway (now (words .entry)) group end (now (values .exit)) r ⌝ }
 {
-    let k = layout::kind_of(words[at * layout::RECORD_WORDS]);
-    match k {
+    let kind = layout::kind_of(words[at * layout::RECORD_WORDS]);
+    match kind {
         layout::Kind::Policy { quiet, turned } => {
             put_policy(words, at, end, quiet, turned, group, values, height);
             height + 1

@@ -11,12 +11,12 @@ ghost use Rattle.layout.specs.Steps.{recordsFrom};
 ghost use Rattle.rod.specs.Reading.{someLine, policyValue, says, rodAnswer};
 ghost use Rattle.rod.specs.Traversing.{answersTo};
 ghost use Rattle.rod.specs.Meaning.{rodMeaning, TraverseRan};
-ghost use Rattle.rod.specs.Values.{ValueAdded, LastJoined, joinMeaning, lineAt, LinesTo, policyAt, nodeEnd, NodeAt, Underway};
+ghost use Rattle.rod.specs.Values.{ValueAdded, LastJoined, joinMeaning, maskAt, LinesTo, listedAt, nodeEnd, NodeAt, ReadingUnderway};
 
 // The line at index i, a signal set, lies wholly inside the set.
 fn is_inside(words: &[u32], i: usize, set: u16) -> bool
-    requires { ⌜ (i < length (now words) / 4) × (lineAt (now words) i ≤ 65535) ⌝ }
-    ensures { λ r. ⌜ r ≡ inside (lineAt (now (words .entry)) i) set ⌝ }
+    requires { ⌜ (i < length (now words) / 4) × (maskAt (now words) i ≤ 65535) ⌝ }
+    ensures { λ r. ⌜ r ≡ inside (maskAt (now (words .entry)) i) set ⌝ }
 {
     let line = words[i * layout::RECORD_WORDS + layout::MASK];
     line & set as u32 == line
@@ -58,7 +58,7 @@ fn some_line(words: &[u32], from: usize, end: usize, set: u16) -> bool
 // What the policy at index `at` says of the set; its lines end before index `end`.
 fn policy_value(words: &[u32], at: usize, end: usize, quiet: bool, turned: bool, set: u16) -> bool
     requires { ⌜ (at < length (now words) / 4) × LinesTo (now words) (at + 1) end ⌝ }
-    ensures { λ r. ⌜ r ≡ policyValue set (policyAt (now (words .entry)) at quiet turned) ⌝ }
+    ensures { λ r. ⌜ r ≡ policyValue set (listedAt (now (words .entry)) at quiet turned) ⌝ }
 {
     let mask = words[at * layout::RECORD_WORDS + layout::MASK];
     if mask & set as u32 != 0 {
@@ -105,11 +105,11 @@ pub fn next_index(words: &[u32], at: usize) -> usize
 
 // The values after the node at index `at`.
 fn after_node(words: &[u32], at: usize, end: usize, set: u16, values: u32) -> u32
-    requires { ⌜ (at < length (now words) / 4) × (end ≡ nodeEnd (now words) at) × Underway (now words) set at values ⌝ }
-    ensures { λ r. ⌜ Underway (now (words .entry)) set end r ⌝ }
+    requires { ⌜ (at < length (now words) / 4) × (end ≡ nodeEnd (now words) at) × ReadingUnderway (now words) set at values ⌝ }
+    ensures { λ r. ⌜ ReadingUnderway (now (words .entry)) set end r ⌝ }
 {
-    let k = layout::kind_of(words[at * layout::RECORD_WORDS]);
-    match k {
+    let kind = layout::kind_of(words[at * layout::RECORD_WORDS]);
+    match kind {
         layout::Kind::Policy { quiet, turned } => {
             with_value(values, policy_value(words, at, end, quiet, turned, set))
         }
@@ -147,8 +147,8 @@ pub enum Decision {
 pub fn decide(words: &[u32], set: u16) -> Decision
     ensures { λ r. ⌜ rodMeaning r ≡ rodAnswer (now (words .entry)) set ⌝ }
 {
-    let v = layout::check(words);
-    match v {
+    let verdict = layout::check(words);
+    match verdict {
         layout::Verdict::Sound => {
             if reading(words, set) {
                 Decision::Yes
@@ -192,8 +192,8 @@ pub fn traverse(words: &[u32], sets: &[u16], answers: &mut [u8]) -> Traversed
     if sets.len() != answers.len() {
         return Traversed::Unequal;
     }
-    let v = layout::check(words);
-    match v {
+    let verdict = layout::check(words);
+    match verdict {
         layout::Verdict::Sound => {
             answer_all(words, sets, answers);
             Traversed::Answered(sets.len())

@@ -27,11 +27,11 @@ enum-told-2 c = search needs
 sound-comparison-requires : tie.Need-sound-comparison-requires
 sound-comparison-requires c κs = (good (c .before .before .before), sym (c .before .before .check2 .ensures) ∙ ap verdictMeaning (c .enum-told2 .given .1))
 
-enum-known-w : tie.Need-enum-known-w
-enum-known-w c = search needs
+enum-known-other : tie.Need-enum-known-other
+enum-known-other c = search needs
 
-enum-known-v : tie.Need-enum-known-v
-enum-known-v c = search needs
+enum-known-verdict : tie.Need-enum-known-verdict
+enum-known-verdict c = search needs
 
 returns : tie.Need-returns
 returns c = c .sound-comparison .ensures
@@ -39,12 +39,12 @@ returns c = c .sound-comparison .ensures
 returns-2 : tie.Need-returns-2
 returns-2 c =
     let w = c .before in
-    second-declined _ _ (good (w .before .before .before)) _ _ (sym (w .before .before .check2 .ensures) ∙ ap verdictMeaning (w .w .given .1))
+    second-declined _ _ (good (w .before .before .before)) _ _ (sym (w .before .before .check2 .ensures) ∙ ap verdictMeaning (w .other .given .1))
 
 returns-3 : tie.Need-returns-3
 returns-3 c =
     let v = c .before in
-    first-declined _ _ _ _ (sym (v .before .before .check .ensures) ∙ ap verdictMeaning (v .v .given .1))
+    first-declined _ _ _ _ (sym (v .before .before .check .ensures) ∙ ap verdictMeaning (v .verdict .given .1))
 
 pub compare-spec : {M : Type 1} → statement M
 compare-spec =
@@ -55,8 +55,8 @@ compare-spec =
     check-requires-2
     enum-told-2
     sound-comparison-requires
-    enum-known-w
-    enum-known-v
+    enum-known-other
+    enum-known-verdict
     returns
     returns-2
     returns-3)

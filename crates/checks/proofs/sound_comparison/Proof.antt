@@ -9,8 +9,8 @@ use Rattle.checks.proofs.sound_comparison.Tie as tie
 lowest-difference-requires : tie.Need-lowest-difference-requires
 lowest-difference-requires c κs = c .before .before .pre
 
-enum-known-f : tie.Need-enum-known-f
-enum-known-f c = search needs
+enum-known-found : tie.Need-enum-known-found
+enum-known-found c = search needs
 
 reading-requires : tie.Need-reading-requires
 reading-requires c κs = c .before .before .before .before .before .before .pre .0
@@ -23,14 +23,14 @@ returns c =
     let f = c .before .before .before in
     let l = f .before .before in
     let p = l .before .before .before .pre in
-    differ-first _ _ (p .0) (p .1) _ (sym (l .lowest-difference .ensures) ∙ ap foundMeaning (f .f .given .1)) (sym (c .if1 .taken) ∙ c .before .reading .ensures)
+    differ-first _ _ (p .0) (p .1) _ (sym (l .lowest-difference .ensures) ∙ ap foundMeaning (f .found .given .1)) (sym (c .if1 .taken) ∙ c .before .reading .ensures)
 
 returns-2 : tie.Need-returns-2
 returns-2 c =
     let f = c .before .before .before in
     let l = f .before .before in
     let p = l .before .before .before .pre in
-    differ-second _ _ (p .0) (p .1) _ (sym (l .lowest-difference .ensures) ∙ ap foundMeaning (f .f .given .1)) (sym (c .if1 .left) ∙ c .before .reading .ensures)
+    differ-second _ _ (p .0) (p .1) _ (sym (l .lowest-difference .ensures) ∙ ap foundMeaning (f .found .given .1)) (sym (c .if1 .left) ∙ c .before .reading .ensures)
 
 returns-3 : tie.Need-returns-3
 returns-3 c =
@@ -43,7 +43,7 @@ sound-comparison-spec =
     tie.close
     (tie.spec
     lowest-difference-requires
-    enum-known-f
+    enum-known-found
     reading-requires
     enum-told
     returns

@@ -12,11 +12,11 @@ use Rattle.groups.proofs.add_mask.Tie as tie
 is-within-requires : tie.Need-is-within-requires
 is-within-requires c κs = search needs
 
-cast-bit : tie.Need-cast-bit
-cast-bit c = search needs
+cast-marked : tie.Need-cast-marked
+cast-marked c = search needs
 
-shl-bit : tie.Need-shl-bit
-shl-bit c = search needs
+shl-marked : tie.Need-shl-marked
+shl-marked c = search needs
 
 cast-k : tie.Need-cast-k
 cast-k c = search needs
@@ -47,8 +47,8 @@ add-mask-spec =
     tie.close
     (tie.spec
     is-within-requires
-    cast-bit
-    shl-bit
+    cast-marked
+    shl-marked
     cast-k
     mul-table
     element-copy-out-table

@@ -21,8 +21,8 @@ shared-slice-read-kind-of c = search needs
 kind-of-requires : tie.Need-kind-of-requires
 kind-of-requires c κs = search needs
 
-enum-known-k : tie.Need-enum-known-k
-enum-known-k c = search needs
+enum-known-kind : tie.Need-enum-known-kind
+enum-known-kind c = search needs
 
 put-policy-requires : tie.Need-put-policy-requires
 put-policy-requires c κs =
@@ -30,7 +30,7 @@ put-policy-requires c κs =
     let m = p .before .before in
     let s = m .before .before .before in
     let u = s .pre .1 in
-    let e = sym (ap kindMeaning (p .k .given .1)) ∙ m .kind-of .ensures in
+    let e = sym (ap kindMeaning (p .kind .given .1)) ∙ m .kind-of .ensures in
     (u .room, policy-room _ _ _ _ _ (s .pre .0 .0) u _ _ e, u .within, policy-here _ _ _ _ _ (s .pre .0 .0) u _ _ e _ (s .pre .0 .1))
 
 add-result : tie.Need-add-result
@@ -89,7 +89,7 @@ returns c =
     let m = p .before .before in
     let s = m .before .before .before in
     group-at-end _ _ _ _ _ _ (s .pre .0 .1)
-    (past-group-policy _ _ _ _ _ (s .pre .0 .0) (s .pre .1) _ _ (sym (ap kindMeaning (p .k .given .1)) ∙ m .kind-of .ensures) _ (c .put-policy .ensures))
+    (past-group-policy _ _ _ _ _ (s .pre .0 .0) (s .pre .1) _ _ (sym (ap kindMeaning (p .kind .given .1)) ∙ m .kind-of .ensures) _ (c .put-policy .ensures))
 
 returns-2 : tie.Need-returns-2
 returns-2 c =
@@ -133,7 +133,7 @@ after-node-spec =
     mul-kind-of-2
     shared-slice-read-kind-of
     kind-of-requires
-    enum-known-k
+    enum-known-kind
     put-policy-requires
     add-result
     enum-told

@@ -6,7 +6,7 @@ use Rattle.arith.proofs.Tables.{written-over, written-as}
 use Rattle.groups.proofs.MaskRuns.{policy-masks, policy-found}
 use Rattle.groups.proofs.Words.{even-told, even-by, blocks-told}
 use Rattle.rod.specs.Reading.{someLine}
-use Rattle.rod.specs.Values.{policyAt}
+use Rattle.rod.specs.Values.{listedAt}
 use Rattle.groups.proofs.put_policy.Statement.{statement}
 use Rattle.groups.proofs.put_policy.Tie as tie
 
@@ -61,7 +61,7 @@ returns c =
     let f = i .before .before .before in
     let s = f .before .before .before in
     written-as _ _ _ _ _ _
-    (even-told (policyAt (now (s .args .words)) (s .args .at) (s .args .quiet) (s .args .turned)) (s .args .group) (f .lines-inside .result) _ _
+    (even-told (listedAt (now (s .args .words)) (s .args .at) (s .args .quiet) (s .args .turned)) (s .args .group) (f .lines-inside .result) _ _
     (policy-found _ _ _ (s .pre .3) someLine _ (f .lines-inside .result) (f .lines-inside .ensures)) (i .before .all-if .ensures) (i .all-if2 .ensures)
     _ (b .block-overlap .ensures) (even-by _ _ (s .pre .3 .set) (s .pre .2) _ (e .is-even .ensures) (c .if1 .taken))) (v .put-even .ensures)
 
@@ -76,7 +76,7 @@ returns-2 c =
     let s = f .before .before .before in
     written-over _ _ _ _ _ _ _ (v .put-even .ensures)
     (written-as _ _ _ _ _ _
-    (blocks-told (policyAt (now (s .args .words)) (s .args .at) (s .args .quiet) (s .args .turned)) (s .args .group) (f .lines-inside .result) _ _
+    (blocks-told (listedAt (now (s .args .words)) (s .args .at) (s .args .quiet) (s .args .turned)) (s .args .group) (f .lines-inside .result) _ _
     (policy-found _ _ _ (s .pre .3) someLine _ (f .lines-inside .result) (f .lines-inside .ensures)) (i .before .all-if .ensures) (i .all-if2 .ensures))
     (c .put-blocks .ensures))
 

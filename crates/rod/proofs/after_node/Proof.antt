@@ -19,14 +19,14 @@ shared-slice-read-kind-of c = search needs
 kind-of-requires : tie.Need-kind-of-requires
 kind-of-requires c κs = search needs
 
-enum-known-k : tie.Need-enum-known-k
-enum-known-k c = search needs
+enum-known-kind : tie.Need-enum-known-kind
+enum-known-kind c = search needs
 
 policy-value-requires : tie.Need-policy-value-requires
 policy-value-requires c κs =
     let m = c .before .before .before in
     let s = m .before .before .before in
-    (s .pre .0, policy-lines _ _ (s .pre .0) (s .pre .2 .node) _ _ (sym (ap kindMeaning (c .before .k .given .1)) ∙ m .kind-of .ensures) _ (s .pre .1))
+    (s .pre .0, policy-lines _ _ (s .pre .0) (s .pre .2 .node) _ _ (sym (ap kindMeaning (c .before .kind .given .1)) ∙ m .kind-of .ensures) _ (s .pre .1))
 
 with-value-requires : tie.Need-with-value-requires
 with-value-requires c κs =
@@ -60,7 +60,7 @@ returns c =
     let m = k .before .before in
     let s = m .before .before .before in
     at-end _ _ _ _ _ (s .pre .1)
-    (past-policy _ _ _ _ (s .pre .0) (s .pre .2) _ _ (sym (ap kindMeaning (k .k .given .1)) ∙ m .kind-of .ensures) _ _ (c .before .policy-value .ensures) (c .with-value .ensures))
+    (past-policy _ _ _ _ (s .pre .0) (s .pre .2) _ _ (sym (ap kindMeaning (k .kind .given .1)) ∙ m .kind-of .ensures) _ _ (c .before .policy-value .ensures) (c .with-value .ensures))
 
 returns-2 : tie.Need-returns-2
 returns-2 c =
@@ -102,7 +102,7 @@ after-node-spec =
     mul-kind-of-2
     shared-slice-read-kind-of
     kind-of-requires
-    enum-known-k
+    enum-known-kind
     policy-value-requires
     with-value-requires
     enum-told

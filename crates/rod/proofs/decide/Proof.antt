@@ -15,8 +15,8 @@ enum-told c = search needs
 reading-requires : tie.Need-reading-requires
 reading-requires c κs = sym (c .before .before .check .ensures) ∙ ap verdictMeaning (c .enum-told .given .1)
 
-enum-known-v : tie.Need-enum-known-v
-enum-known-v c = search needs
+enum-known-verdict : tie.Need-enum-known-verdict
+enum-known-verdict c = search needs
 
 returns : tie.Need-returns
 returns c =
@@ -31,9 +31,9 @@ returns-2 c =
 returns-3 : tie.Need-returns-3
 returns-3 c =
     let e = c .before in
-    declines _ _ _ _ (sym (e .before .before .check .ensures) ∙ ap verdictMeaning (e .v .given .1))
+    declines _ _ _ _ (sym (e .before .before .check .ensures) ∙ ap verdictMeaning (e .verdict .given .1))
 
 pub decide-spec : {M : Type 1} → statement M
 decide-spec =
     tie.close
-    (tie.spec check-requires enum-told reading-requires enum-known-v returns returns-2 returns-3)
+    (tie.spec check-requires enum-told reading-requires enum-known-verdict returns returns-2 returns-3)

@@ -2,13 +2,13 @@
 use Prim.Native.Nat.{_-_, _/_}
 use native.Mathlib.Omega.{arith}
 use lib.ListN.{length}
-use Rattle.rod.specs.Values.{nodeEnd, Underway}
+use Rattle.rod.specs.Values.{nodeEnd, ReadingUnderway}
 use Rattle.rod.proofs.Steps.{begins, ends}
 use Rattle.rod.proofs.reading.Statement.{statement}
 use Rattle.rod.proofs.reading.Tie as tie
 
 abbrev Inv-loop : tie.InvT-loop
-Inv-loop words set values₀ at₀ values at = Underway words set at values
+Inv-loop words set values₀ at₀ values at = ReadingUnderway words set at values
 
 abbrev μ-loop : tie.MeasureT-loop
 μ-loop words set values₀ at₀ values at = length words / 4 - at

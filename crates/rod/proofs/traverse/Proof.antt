@@ -37,8 +37,8 @@ answer-all-requires c κs =
     let a = e .before .before in
     (told a _ (e .enum-told .given .1), equal a)
 
-enum-known-v : tie.Need-enum-known-v
-enum-known-v c = search needs
+enum-known-verdict : tie.Need-enum-known-verdict
+enum-known-verdict c = search needs
 
 same-length : tie.Need-same-length
 same-length c = search needs
@@ -55,7 +55,7 @@ returns-3 : tie.Need-returns-3
 returns-3 c =
     let e = c .before in
     let a = e .before .before in
-    unsound _ _ _ (equal a) _ (told a _ (e .v .given .1))
+    unsound _ _ _ (equal a) _ (told a _ (e .verdict .given .1))
 
 pub traverse-spec : {M : Type 1} → statement M
 traverse-spec =
@@ -65,7 +65,7 @@ traverse-spec =
     check-requires
     enum-told
     answer-all-requires
-    enum-known-v
+    enum-known-verdict
     same-length
     returns-2
     returns-3)
