@@ -2,10 +2,10 @@
 // 64 * block + j. So the six lowest signals have the same patterns in every block. The functions are for the crates above.
 ghost use mathlib.Core.Bool.{not, _&&_, _||_};
 ghost use mathlib.Core.Path.{_≡_};
-ghost use Prim.Native.Nat.{_+_, _%_, _≤_, _<_};
+ghost use Prim.Native.Nat.{_+_, _≤_, _<_};
 ghost use Rattle.arith.specs.Lists.{countBelow};
 ghost use Rattle.signals.specs.Sets.{present, overlap};
-ghost use Rattle.blocks.specs.Blocks.{WordOf, BlockOf, without};
+ghost use Rattle.blocks.specs.Blocks.{WordOf, BlockOf, LowTold, without};
 
 // How many sets a block has.
 pub const BLOCK_SETS: u32 = 64;
@@ -78,7 +78,8 @@ pub fn low_overlap(low: u32) -> u64
 
 // The sets of the block that share a signal with the mask, from those that share one of the six lowest.
 pub fn block_overlap(mask: u32, low: u64, block: u32) -> u64
-    requires { ⌜ (mask ≤ 65535) × (block ≤ 1023) × WordOf (overlap (mask % 64)) low ⌝ }
+    requires { ⌜ LowTold mask low ⌝ }
+    requires { ⌜ block ≤ 1023 ⌝ }
     ensures { λ r. ⌜ BlockOf (overlap mask) block r ⌝ }
 {
     if mask / BLOCK_SETS & block == 0 {

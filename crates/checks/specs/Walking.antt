@@ -28,6 +28,13 @@ chosenBy false other j = result (record { choice = choiceOf other (some 0); judg
 abbrev pub HasBlocks : List ℕ → Type 0
 HasBlocks table = 16 ≤ length table
 
+-- so have the four that the lowest set of a group is found by
+pub record FourTables (barred also one two : List ℕ) : Type 0 where
+  pub barredThere : HasBlocks barred
+  pub alsoThere : HasBlocks also
+  pub oneThere : HasBlocks one
+  pub twoThere : HasBlocks two
+
 -- of any test of the block's sets that a word tells, this set is the lowest that passes it
 abbrev pub LowestIn : ℕ → ℕ → ℕ → Type 0
 LowestIn block word set = (test : ℕ → Bool) → BlockOf test block word → lowestFrom 64 (64 * block) test ≡ some set

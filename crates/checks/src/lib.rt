@@ -9,10 +9,10 @@ ghost use Rattle.answers.specs.Answers.{result};
 ghost use Rattle.signals.specs.Sets.{present};
 ghost use Rattle.blocks.specs.Blocks.{WordOf};
 ghost use Rattle.layout.specs.Judgement.{verdict};
-ghost use Rattle.groups.specs.Groups.{GroupOf, SoundWith};
+ghost use Rattle.groups.specs.Groups.{IsGroup, GroupOf, SoundGroup};
 ghost use Rattle.checks.specs.Checks.{permitted, lowestSet, chosen, differAt, comparison};
 ghost use Rattle.checks.specs.Meaning.{choiceMeaning, comparisonMeaning};
-ghost use Rattle.checks.specs.Walking.{foundMeaning, chosenBy, HasBlocks, LowestIn, apartBit, LowestInGroup, PermittedUpTo};
+ghost use Rattle.checks.specs.Walking.{foundMeaning, chosenBy, HasBlocks, FourTables, LowestIn, apartBit, LowestInGroup, PermittedUpTo};
 
 // How many groups of 1,024 signal sets there are.
 const GROUPS: u32 = groups::HIGHEST_GROUP + 1;
@@ -25,7 +25,7 @@ enum Found {
 
 // The sets of the group with an excluded pair of the sound listing, which begins with so many.
 fn group_barred(words: &[u32], pairs: usize, group: u32) -> groups::Table
-    requires { ⌜ SoundWith (now words) pairs × (group ≤ 63) ⌝ }
+    requires { ⌜ SoundGroup (now words) pairs group ⌝ }
     ensures { λ r. ⌜ GroupOf (λ set. not (permitted (now (words .entry)) set)) group r ⌝ }
 {
     let mut table = [0u64; groups::TABLE_WORDS];
@@ -39,7 +39,8 @@ fn group_barred(words: &[u32], pairs: usize, group: u32) -> groups::Table
 
 // The set of a word's lowest bit.
 fn lowest_in(block: u32, word: u64) -> u16
-    requires { ⌜ (block ≤ 1023) × (0 < word) ⌝ }
+    requires { ⌜ block ≤ 1023 ⌝ }
+    requires { ⌜ 0 < word ⌝ }
     ensures { λ r. ⌜ LowestIn block word r ⌝ }
 {
     (blocks::BLOCK_SETS * block + u64::trailing_zeros(word)) as u16
@@ -54,8 +55,8 @@ fn apart_word(barred: u64, also: u64, first: u64, second: u64) -> u64
 
 // The lowest set of the group that is barred by neither, and on which the two differ. Both checks walk a group's blocks here.
 fn lowest_apart(barred: &[u64], also: &[u64], first: &[u64], second: &[u64], group: u32) -> Found
-    requires { ⌜ (group ≤ 63) × HasBlocks (now barred) × HasBlocks (now also) ⌝ }
-    requires { ⌜ HasBlocks (now first) × HasBlocks (now second) ⌝ }
+    requires { ⌜ IsGroup group ⌝ }
+    requires { ⌜ FourTables (now barred) (now also) (now first) (now second) ⌝ }
     ensures { λ r. ⌜ LowestInGroup group (now (barred .entry)) (now (also .entry))
         (now (first .entry)) (now (second .entry)) r ⌝ }
 {
@@ -95,7 +96,8 @@ fn empty_gives(before: bool, values: &[u64], group: u32) -> bool
 // How many of the group's sets are not barred, up to the one of place `last`, which is looked at too. Without pairs none is
 // barred, and nothing has to be counted (docs/DECISIONS.md, D48).
 fn permitted_up_to(barred: &[u64], pairs: usize, last: u32) -> u32
-    requires { ⌜ (last ≤ 1023) × HasBlocks (now barred) ⌝ }
+    requires { ⌜ last ≤ 1023 ⌝ }
+    requires { ⌜ HasBlocks (now barred) ⌝ }
     ensures { λ r. ⌜ PermittedUpTo (now (barred .entry)) pairs last r ⌝ }
 {
     if pairs == 0 {
@@ -172,7 +174,8 @@ pub fn choice(words: &[u32]) -> ChoiceAnswer
 
 // The lowest set where the two sound listings differ.
 fn lowest_difference(one: &[u32], two: &[u32]) -> Found
-    requires { ⌜ (verdict (now one) ≡ result tt) × (verdict (now two) ≡ result tt) ⌝ }
+    requires { ⌜ verdict (now one) ≡ result tt ⌝ }
+    requires { ⌜ verdict (now two) ≡ result tt ⌝ }
     ensures { λ r. ⌜ foundMeaning r ≡ lowestSet (differAt (now (one .entry)) (now (two .entry))) ⌝ }
 {
     let pairs = groups::pair_count(one);
@@ -206,7 +209,8 @@ pub enum ComparisonAnswer {
 }
 
 fn sound_comparison(one: &[u32], two: &[u32]) -> ComparisonAnswer
-    requires { ⌜ (verdict (now one) ≡ result tt) × (verdict (now two) ≡ result tt) ⌝ }
+    requires { ⌜ verdict (now one) ≡ result tt ⌝ }
+    requires { ⌜ verdict (now two) ≡ result tt ⌝ }
     ensures { λ r. ⌜ comparisonMeaning r ≡ comparison (now (one .entry)) (now (two .entry)) ⌝ }
 {
     let found = lowest_difference(one, two);

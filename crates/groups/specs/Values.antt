@@ -12,11 +12,27 @@ use Rattle.layout.specs.Records.{Join}
 use Rattle.layout.specs.Nodes.{ListedPolicy, nodes}
 use Rattle.layout.specs.Steps.{recordsFrom}
 use Rattle.rod.specs.Reading.{policyValue, joined, says}
+use Rattle.groups.specs.Groups.{IsGroup, GroupOf}
 use Rattle.rod.specs.Values.{maskAt, LinesTo, listedAt, NodeAt}
+
+-- the values are kept in sixteen tables, one after the other
+abbrev pub SixteenTables : List ℕ → Type 0
+SixteenTables values = length values ≡ 256
 
 -- where word k of the value at a height stands
 abbrev pub valueWord : ℕ → ℕ → ℕ
 valueWord height k = height * 16 + k
+
+-- there is room for a value at this height
+pub record ValueRoom (values : List ℕ) (height : ℕ) : Type 0 where
+  pub room : SixteenTables values
+  pub below : height < 16
+
+-- there are so many values, two at least
+pub record TwoValues (values : List ℕ) (height : ℕ) : Type 0 where
+  pub room : SixteenTables values
+  pub least : 2 ≤ height
+  pub most : height ≤ 16
 
 -- word k tells what a policy says of block k of the group
 abbrev pub PolicyWord : ListedPolicy → ℕ → ℕ → ℕ → Type 0
@@ -74,8 +90,8 @@ column j held = map (λ (word : ℕ). present word j) held
 
 -- at this index, with so many values, the nodes to come say of each set of the group what the whole listing says
 pub record GroupUnderway (ws : List ℕ) (group at : ℕ) (values : List ℕ) (height : ℕ) : Type 0 where
-  pub within : group ≤ 63
-  pub room : length values ≡ 256
+  pub within : IsGroup group
+  pub room : SixteenTables values
   pub node : NodeAt ws at
   pub level : node .above .values ≡ height
   pub few : node .above .values ≤ node .above .policies
@@ -83,3 +99,8 @@ pub record GroupUnderway (ws : List ℕ) (group at : ℕ) (values : List ℕ) (h
   pub same : (k : ℕ) → k < 16 → (j : ℕ) → j < 64
       → getD (run joined (policyValue (64 * (16 * group + k) + j)) (nodes (recordsFrom ws at)) (column j (heldWords values k height))) 0 false
       ≡ says ws (64 * (16 * group + k) + j)
+
+-- the first table tells of each set of the group what the listing says
+pub record GroupRead (ws : List ℕ) (group : ℕ) (values : List ℕ) : Type 0 where
+  pub room : SixteenTables values
+  pub told : GroupOf (says ws) group values

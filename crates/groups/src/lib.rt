@@ -2,15 +2,14 @@
 // for each block. The functions are for the crates above, and allocate nothing.
 ghost use mathlib.Core.Bool.{_||_};
 ghost use mathlib.Core.Path.{_≡_};
-ghost use Prim.Native.Nat.{_-_, _/_, _%_, _≤_, _<_};
+ghost use Prim.Native.Nat.{_-_, _/_, _%_, _<_};
 ghost use lib.Dec.{eqb};
-ghost use lib.ListN.{length};
 ghost use Rattle.signals.specs.Sets.{present, inside, overlap};
-ghost use Rattle.blocks.specs.Blocks.{WordOf};
-ghost use Rattle.rod.specs.Reading.{someLine, joined, says};
-ghost use Rattle.rod.specs.Values.{joinMeaning, nodeEnd};
-ghost use Rattle.groups.specs.Groups.{GroupOf, masksFrom, MasksAt, pairCount, SoundWith, Added, Gathered, Spread, AllSpread};
-ghost use Rattle.groups.specs.Values.{policyBit, EvenPut, BlocksPut, Said, JoinPut, PolicyHere, GroupUnderway};
+ghost use Rattle.blocks.specs.Blocks.{WordOf, LowTold};
+ghost use Rattle.rod.specs.Reading.{someLine, joined};
+ghost use Rattle.rod.specs.Values.{joinMeaning, NodeTo};
+ghost use Rattle.groups.specs.Groups.{IsGroup, IsTable, GroupOf, masksFrom, MasksAt, CanGather, pairCount, SoundGroup, SetAndGroup, Added, Gathered, BlockSignal, Spread, AllSpread};
+ghost use Rattle.groups.specs.Values.{SixteenTables, ValueRoom, TwoValues, policyBit, EvenPut, BlocksPut, Said, JoinPut, PolicyHere, GroupUnderway, GroupRead};
 
 // How many blocks a group has.
 pub const GROUP_BLOCKS: u32 = 16;
@@ -50,7 +49,7 @@ pub fn pair_count(words: &[u32]) -> usize
 
 // The mask has none of the six highest signals that the group lacks.
 fn is_within(mask: u32, group: u32) -> bool
-    requires { ⌜ (mask ≤ 65535) × (group ≤ 63) ⌝ }
+    requires { ⌜ SetAndGroup mask group ⌝ }
     ensures { λ r. ⌜ r ≡ inside (mask / 1024) group ⌝ }
 {
     mask & (HIGHEST_GROUP - group) * GROUP_SETS == 0
@@ -58,7 +57,8 @@ fn is_within(mask: u32, group: u32) -> bool
 
 // If the group has the mask's six highest signals, its set with just the mask's ten lowest is put into the table.
 fn add_mask(table: &mut Table, mask: u32, group: u32)
-    requires { ⌜ (length (now table) ≡ 16) × (mask ≤ 65535) × (group ≤ 63) ⌝ }
+    requires { ⌜ IsTable (now table) ⌝ }
+    requires { ⌜ SetAndGroup mask group ⌝ }
     ensures { λ _. ⌜ Added mask group (now (table .entry)) (now (table .exit)) ⌝ }
 {
     if is_within(mask, group) {
@@ -85,7 +85,8 @@ const FOUR_RECORDS: usize = TURN_RECORDS * layout::RECORD_WORDS;
 
 // The masks of the records from index `from` up to `end` are put into the table, four at a turn (docs/DECISIONS.md, D37).
 fn gather_fours(words: &[u32], from: usize, end: usize, group: u32, table: &mut Table)
-    requires { ⌜ (length (now table) ≡ 16) × (group ≤ 63) × MasksAt (now words) from end × ((end - from) % 4 ≡ 0) ⌝ }
+    requires { ⌜ CanGather (now words) from end group (now table) ⌝ }
+    requires { ⌜ (end - from) % 4 ≡ 0 ⌝ }
     ensures { λ _. ⌜ Gathered (now (words .entry)) from end group (now (table .entry)) (now (table .exit)) ⌝ }
 {
     let mut place = from * layout::RECORD_WORDS;
@@ -100,7 +101,7 @@ fn gather_fours(words: &[u32], from: usize, end: usize, group: u32, table: &mut 
 
 // The masks of the records from index `from` up to `end` are put into the table, one at a turn.
 fn gather_rest(words: &[u32], from: usize, end: usize, group: u32, table: &mut Table)
-    requires { ⌜ (length (now table) ≡ 16) × (group ≤ 63) × MasksAt (now words) from end ⌝ }
+    requires { ⌜ CanGather (now words) from end group (now table) ⌝ }
     ensures { λ _. ⌜ Gathered (now (words .entry)) from end group (now (table .entry)) (now (table .exit)) ⌝ }
 {
     let mut i = from;
@@ -112,7 +113,7 @@ fn gather_rest(words: &[u32], from: usize, end: usize, group: u32, table: &mut T
 
 // The masks of the records from index `from` up to `end` are put into the table.
 pub fn gather(words: &[u32], from: usize, end: usize, group: u32, table: &mut Table)
-    requires { ⌜ (length (now table) ≡ 16) × (group ≤ 63) × MasksAt (now words) from end ⌝ }
+    requires { ⌜ CanGather (now words) from end group (now table) ⌝ }
     ensures { λ _. ⌜ Gathered (now (words .entry)) from end group (now (table .entry)) (now (table .exit)) ⌝ }
 {
     let rest = end - (end - from) % TURN_RECORDS;
@@ -122,7 +123,8 @@ pub fn gather(words: &[u32], from: usize, end: usize, group: u32, table: &mut Ta
 
 // One of the six lowest signals is spread: within each word.
 fn spread_low(table: &mut Table, signal: u32)
-    requires { ⌜ (length (now table) ≡ 16) × (signal < 6) ⌝ }
+    requires { ⌜ IsTable (now table) ⌝ }
+    requires { ⌜ signal < 6 ⌝ }
     ensures { λ _. ⌜ Spread signal (now (table .entry)) (now (table .exit)) ⌝ }
 {
     let mut k: usize = 0;
@@ -134,7 +136,8 @@ fn spread_low(table: &mut Table, signal: u32)
 
 // One of the signals 6 to 9 is spread: from word to word.
 fn spread_high(table: &mut Table, signal: u32)
-    requires { ⌜ (length (now table) ≡ 16) × (6 ≤ signal) × (signal ≤ 9) ⌝ }
+    requires { ⌜ IsTable (now table) ⌝ }
+    requires { ⌜ BlockSignal signal ⌝ }
     ensures { λ _. ⌜ Spread signal (now (table .entry)) (now (table .exit)) ⌝ }
 {
     let weight: usize = 1 << (signal - 6);
@@ -147,7 +150,7 @@ fn spread_high(table: &mut Table, signal: u32)
 
 // Each set gets what is told of the sets inside it.
 pub fn spread(table: &mut Table)
-    requires { ⌜ length (now table) ≡ 16 ⌝ }
+    requires { ⌜ IsTable (now table) ⌝ }
     ensures { λ _. ⌜ AllSpread (now (table .entry)) (now (table .exit)) ⌝ }
 {
     spread_low(table, 0);
@@ -164,7 +167,8 @@ pub fn spread(table: &mut Table)
 
 // The sets of the group inside which a line lies, of the lines from index `from` up to `end`.
 fn lines_inside(words: &[u32], from: usize, end: usize, group: u32) -> Table
-    requires { ⌜ (group ≤ 63) × MasksAt (now words) from end ⌝ }
+    requires { ⌜ IsGroup group ⌝ }
+    requires { ⌜ MasksAt (now words) from end ⌝ }
     ensures { λ r. ⌜ GroupOf (someLine (masksFrom (now (words .entry)) from (end - from))) group r ⌝ }
 {
     let mut table = [0u64; TABLE_WORDS];
@@ -186,7 +190,7 @@ fn policy_word(shared: u64, found: u64, turn: u64, still: u64) -> u64
 
 // The mask overlaps every block of the group alike: it has none of their own signals, or one of the group's.
 fn is_even(mask: u32, group: u32) -> bool
-    requires { ⌜ group ≤ 63 ⌝ }
+    requires { ⌜ IsGroup group ⌝ }
     ensures { λ r. ⌜ r ≡ (eqb (mask / 64 % 16) 0 || overlap (mask / 1024) group) ⌝ }
 {
     mask / blocks::BLOCK_SETS % GROUP_BLOCKS == 0 || mask / GROUP_SETS & group != 0
@@ -194,7 +198,7 @@ fn is_even(mask: u32, group: u32) -> bool
 
 // The policy's words, each by one and the same word of its overlap.
 fn put_even(values: &mut Values, height: usize, found: Table, shared: u64, turn: u64, still: u64)
-    requires { ⌜ (length (now values) ≡ 256) × (height < 16) ⌝ }
+    requires { ⌜ ValueRoom (now values) height ⌝ }
     ensures { λ _. ⌜ EvenPut shared found turn still height (now (values .entry)) (now (values .exit)) ⌝ }
 {
     let mut k: usize = 0;
@@ -215,8 +219,9 @@ fn put_blocks(
     turn: u64,
     still: u64,
 )
-    requires { ⌜ (length (now values) ≡ 256) × (height < 16) ⌝ }
-    requires { ⌜ (mask ≤ 65535) × (group ≤ 63) × WordOf (overlap (mask % 64)) low ⌝ }
+    requires { ⌜ ValueRoom (now values) height ⌝ }
+    requires { ⌜ LowTold mask low ⌝ }
+    requires { ⌜ IsGroup group ⌝ }
     ensures { λ _. ⌜ BlocksPut mask group found turn still height (now (values .entry)) (now (values .exit)) ⌝ }
 {
     let mut k: usize = 0;
@@ -238,7 +243,9 @@ fn put_policy(
     values: &mut Values,
     height: usize,
 )
-    requires { ⌜ (length (now values) ≡ 256) × (height < 16) × (group ≤ 63) × PolicyHere (now words) at end ⌝ }
+    requires { ⌜ ValueRoom (now values) height ⌝ }
+    requires { ⌜ PolicyHere (now words) at end ⌝ }
+    requires { ⌜ IsGroup group ⌝ }
     ensures { λ _. ⌜ Said (now (words .entry)) at quiet turned group height
         (now (values .entry)) (now (values .exit)) ⌝ }
 {
@@ -265,7 +272,7 @@ fn join_words(first: u64, second: u64, or: bool) -> u64
 
 // The last two values joined into one.
 fn join_last(values: &mut Values, height: usize, or: bool)
-    requires { ⌜ (length (now values) ≡ 256) × (2 ≤ height) × (height ≤ 16) ⌝ }
+    requires { ⌜ TwoValues (now values) height ⌝ }
     ensures { λ _. ⌜ JoinPut (joinMeaning or) (height - 2) (now (values .entry)) (now (values .exit)) ⌝ }
 {
     let first = (height - 2) * TABLE_WORDS;
@@ -286,7 +293,7 @@ fn after_node(
     values: &mut Values,
     height: usize,
 ) -> usize
-    requires { ⌜ (at < length (now words) / 4) × (end ≡ nodeEnd (now words) at) ⌝ }
+    requires { ⌜ NodeTo (now words) at end ⌝ }
     requires { ⌜ GroupUnderway (now words) group at (now values) height ⌝ }
     ensures { λ r. ⌜ GroupUnderway (now (words .entry)) group end (now (values .exit)) r ⌝ }
 {
@@ -312,9 +319,9 @@ fn after_node(
 
 // What a sound listing, which begins with so many pairs, says of each set of the group: in the first 16 of the values.
 pub fn reading(words: &[u32], pairs: usize, group: u32, values: &mut Values)
-    requires { ⌜ SoundWith (now words) pairs × (group ≤ 63) × (length (now values) ≡ 256) ⌝ }
-    ensures { λ _. ⌜ GroupOf (says (now (words .entry))) group (now (values .exit)) ⌝ }
-    ensures { λ _. ⌜ length (now (values .exit)) ≡ 256 ⌝ }
+    requires { ⌜ SoundGroup (now words) pairs group ⌝ }
+    requires { ⌜ SixteenTables (now values) ⌝ }
+    ensures { λ _. ⌜ GroupRead (now (words .entry)) group (now (values .exit)) ⌝ }
 {
     let mut height: usize = 0;
     let mut at = pairs;

@@ -1,5 +1,5 @@
 -- The values as the code keeps them, and where it stands in a sound listing.
-use Prim.Native.Nat.{ℕ, _+_, _*_, _≤_}
+use Prim.Native.Nat.{ℕ, _+_, _*_, _/_, _≤_, _<_}
 use mathlib.Core.Bool.{Bool, true, false}
 use mathlib.Core.List.{List, [], _∷_}
 use mathlib.Core.Path.{_≡_}
@@ -51,6 +51,11 @@ listedAt ws at quiet turned = record { quiet = quiet; turned = turned; mask = ma
 -- the index after a node and its lines
 unfoldable pub nodeEnd : List ℕ → ℕ → ℕ
 nodeEnd ws at = at + 1 + length (leadingLines (recordsFrom ws (at + 1)))
+
+-- the node at this index ends, with its lines, before index `end`
+pub record NodeTo (ws : List ℕ) (at end : ℕ) : Type 0 where
+  pub within : at < length ws / 4
+  pub ends : end ≡ nodeEnd ws at
 
 -- the records from this index on are judged sound, and begin with no line
 pub record NodeAt (ws : List ℕ) (at : ℕ) : Type 0 where

@@ -11,11 +11,12 @@ ghost use Rattle.layout.specs.Steps.{recordsFrom};
 ghost use Rattle.rod.specs.Reading.{someLine, policyValue, says, rodAnswer};
 ghost use Rattle.rod.specs.Traversing.{answersTo};
 ghost use Rattle.rod.specs.Meaning.{rodMeaning, TraverseRan};
-ghost use Rattle.rod.specs.Values.{ValueAdded, LastJoined, joinMeaning, maskAt, LinesTo, listedAt, nodeEnd, NodeAt, ReadingUnderway};
+ghost use Rattle.rod.specs.Values.{ValueAdded, LastJoined, joinMeaning, maskAt, LinesTo, listedAt, nodeEnd, NodeTo, NodeAt, ReadingUnderway};
 
 // The line at index i, a signal set, lies wholly inside the set.
 fn is_inside(words: &[u32], i: usize, set: u16) -> bool
-    requires { ⌜ (i < length (now words) / 4) × (maskAt (now words) i ≤ 65535) ⌝ }
+    requires { ⌜ i < length (now words) / 4 ⌝ }
+    requires { ⌜ maskAt (now words) i ≤ 65535 ⌝ }
     ensures { λ r. ⌜ r ≡ inside (maskAt (now (words .entry)) i) set ⌝ }
 {
     let line = words[i * layout::RECORD_WORDS + layout::MASK];
@@ -57,7 +58,8 @@ fn some_line(words: &[u32], from: usize, end: usize, set: u16) -> bool
 
 // What the policy at index `at` says of the set; its lines end before index `end`.
 fn policy_value(words: &[u32], at: usize, end: usize, quiet: bool, turned: bool, set: u16) -> bool
-    requires { ⌜ (at < length (now words) / 4) × LinesTo (now words) (at + 1) end ⌝ }
+    requires { ⌜ at < length (now words) / 4 ⌝ }
+    requires { ⌜ LinesTo (now words) (at + 1) end ⌝ }
     ensures { λ r. ⌜ r ≡ policyValue set (listedAt (now (words .entry)) at quiet turned) ⌝ }
 {
     let mask = words[at * layout::RECORD_WORDS + layout::MASK];
@@ -92,7 +94,8 @@ fn with_join(values: u32, or: bool) -> u32
 
 // The index of the node after the one at index `at`: its `next` leads over its lines.
 pub fn next_index(words: &[u32], at: usize) -> usize
-    requires { ⌜ (at < length (now words) / 4) × NodeAt (now words) at ⌝ }
+    requires { ⌜ at < length (now words) / 4 ⌝ }
+    requires { ⌜ NodeAt (now words) at ⌝ }
     ensures { λ r. ⌜ r ≡ nodeEnd (now (words .entry)) at ⌝ }
 {
     let next = words[at * layout::RECORD_WORDS + layout::NEXT];
@@ -105,7 +108,8 @@ pub fn next_index(words: &[u32], at: usize) -> usize
 
 // The values after the node at index `at`.
 fn after_node(words: &[u32], at: usize, end: usize, set: u16, values: u32) -> u32
-    requires { ⌜ (at < length (now words) / 4) × (end ≡ nodeEnd (now words) at) × ReadingUnderway (now words) set at values ⌝ }
+    requires { ⌜ NodeTo (now words) at end ⌝ }
+    requires { ⌜ ReadingUnderway (now words) set at values ⌝ }
     ensures { λ r. ⌜ ReadingUnderway (now (words .entry)) set end r ⌝ }
 {
     let kind = layout::kind_of(words[at * layout::RECORD_WORDS]);
@@ -162,7 +166,8 @@ pub fn decide(words: &[u32], set: u16) -> Decision
 
 // Writes what the sound listing says of each set: 1 for yes, 0 for no.
 fn answer_all(words: &[u32], sets: &[u16], answers: &mut [u8])
-    requires { ⌜ (verdict (now words) ≡ result tt) × (length (now sets) ≡ length (now answers)) ⌝ }
+    requires { ⌜ verdict (now words) ≡ result tt ⌝ }
+    requires { ⌜ length (now sets) ≡ length (now answers) ⌝ }
     ensures { λ r. ⌜ now (answers .exit) ≡ answersTo (now (words .entry)) (now (sets .entry)) ⌝ }
 {
     let mut i: usize = 0;

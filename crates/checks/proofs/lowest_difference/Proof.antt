@@ -73,7 +73,7 @@ told c =
     let r = c .before .before .before .before .before in
     let f = r .before .before in
     let b = f .before .before in
-    c .lowest-apart .ensures _ (differ-group _ _ _ (b .before .group-barred .result) (b .group-barred2 .result) (left f) (left₂ r) (b .before .group-barred .ensures) (b .group-barred2 .ensures) (f .reading .ensures .0) (r .reading2 .ensures .0))
+    c .lowest-apart .ensures _ (differ-group _ _ _ (b .before .group-barred .result) (b .group-barred2 .result) (left f) (left₂ r) (b .before .group-barred .ensures) (b .group-barred2 .ensures) (f .reading .ensures .told) (r .reading2 .ensures .told))
 
 enum-told : tie.Need-enum-told Inv-loop μ-loop
 enum-told c = search needs
@@ -100,8 +100,8 @@ loop-again c =
     let r = w .before .before .before .before .before in
     let l = r .before .before .before .before .before .before in (
       omega (arith, l .loop-test .taken),
-      r .before .before .reading .ensures .1,
-      r .reading2 .ensures .1,
+      r .before .before .reading .ensures .room,
+      r .reading2 .ensures .room,
       next-group _ _ (l .before .loop .inv .3) (sym (told w) ∙ ap foundMeaning (c .enum-told .given .1)),
     )
 

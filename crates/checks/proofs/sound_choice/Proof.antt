@@ -69,7 +69,7 @@ all-permitted l = permitted-all _ _ (l .before .before .before .before .pre, l .
 empty-is : (c : tie.After-empty-gives Inv-loop μ-loop) → c .empty-gives .result ≡ says (wordsOf (turn c)) 0
 empty-is c =
     let r = c .before .before in
-    c .empty-gives .ensures ∙ empty-told _ _ (left r) _ (r .reading .ensures .0) (turn c .before .loop .inv .2)
+    c .empty-gives .ensures ∙ empty-told _ _ (left r) _ (r .reading .ensures .told) (turn c .before .loop .inv .2)
 
 all-if-requires : tie.Need-all-if-requires Inv-loop μ-loop
 all-if-requires c κs = search needs
@@ -101,7 +101,7 @@ told c =
     let a = c .before .before .before .before .before in
     let r = given c .before .before in
     let b = r .before .before in
-    c .lowest-apart .ensures _ (other-group _ _ (empty-is (given c)) _ (b .group-barred .result) (left r) _ (b .group-barred .ensures) (r .reading .ensures .0) (a .all-if .ensures))
+    c .lowest-apart .ensures _ (other-group _ _ (empty-is (given c)) _ (b .group-barred .result) (left r) _ (b .group-barred .ensures) (r .reading .ensures .told) (a .all-if .ensures))
 
 enum-known-other : tie.Need-enum-known-other Inv-loop μ-loop
 enum-known-other c = search needs
@@ -190,7 +190,7 @@ loop-again c =
     let w = c .before .before .before .before in
     let l = turn (given w) in (
       omega (arith, l .loop-test .taken),
-      given w .before .before .reading .ensures .1,
+      given w .before .before .reading .ensures .room,
       λ later. empty-is (given w),
       next-group _ _ (l .before .loop .inv .3) (sym (told w) ∙ ap foundMeaning (c .before .before .enum-told .given .1)),
       judged-on c .0 ∙ ap (λ (n : ℕ). countBelow n (permitted (wordsOf l))) (next (groupOf l)),

@@ -31,7 +31,7 @@ put-policy-requires c κs =
     let s = m .before .before .before in
     let u = s .pre .1 in
     let e = sym (ap kindMeaning (p .kind .given .1)) ∙ m .kind-of .ensures in
-    (u .room, policy-room _ _ _ _ _ (s .pre .0 .0) u _ _ e, u .within, policy-here _ _ _ _ _ (s .pre .0 .0) u _ _ e _ (s .pre .0 .1))
+    (record { room = u .room; below = policy-room _ _ _ _ _ (s .pre .0 .within) u _ _ e }, (policy-here _ _ _ _ _ (s .pre .0 .within) u _ _ e _ (s .pre .0 .ends), u .within))
 
 add-result : tie.Need-add-result
 add-result c = search needs
@@ -46,14 +46,14 @@ join-last-requires c κs =
     let s = m .before .before .before in
     let u = s .pre .1 in
     let e = sym (ap kindMeaning (k .enum-told .given .1)) ∙ m .kind-of .ensures in
-    (u .room, two-values _ _ _ _ _ (s .pre .0 .0) u and e, values-room _ _ _ _ _ (s .pre .0 .0) u and e)
+    record { room = u .room; least = two-values _ _ _ _ _ (s .pre .0 .within) u and e; most = values-room _ _ _ _ _ (s .pre .0 .within) u and e }
 
 sub-result : tie.Need-sub-result
 sub-result c =
     let k = c .before .before in
     let m = k .before .before in
     let s = m .before .before .before in
-    omega (arith, two-values _ _ _ _ _ (s .pre .0 .0) (s .pre .1) and (sym (ap kindMeaning (k .enum-told .given .1)) ∙ m .kind-of .ensures))
+    omega (arith, two-values _ _ _ _ _ (s .pre .0 .within) (s .pre .1) and (sym (ap kindMeaning (k .enum-told .given .1)) ∙ m .kind-of .ensures))
 
 enum-told-2 : tie.Need-enum-told-2
 enum-told-2 c = search needs
@@ -65,14 +65,14 @@ join-last-requires-2 c κs =
     let s = m .before .before .before in
     let u = s .pre .1 in
     let e = sym (ap kindMeaning (k .enum-told2 .given .1)) ∙ m .kind-of .ensures in
-    (u .room, two-values _ _ _ _ _ (s .pre .0 .0) u or e, values-room _ _ _ _ _ (s .pre .0 .0) u or e)
+    record { room = u .room; least = two-values _ _ _ _ _ (s .pre .0 .within) u or e; most = values-room _ _ _ _ _ (s .pre .0 .within) u or e }
 
 sub-result-2 : tie.Need-sub-result-2
 sub-result-2 c =
     let k = c .before .before in
     let m = k .before .before in
     let s = m .before .before .before in
-    omega (arith, two-values _ _ _ _ _ (s .pre .0 .0) (s .pre .1) or (sym (ap kindMeaning (k .enum-told2 .given .1)) ∙ m .kind-of .ensures))
+    omega (arith, two-values _ _ _ _ _ (s .pre .0 .within) (s .pre .1) or (sym (ap kindMeaning (k .enum-told2 .given .1)) ∙ m .kind-of .ensures))
 
 enum-told-3 : tie.Need-enum-told-3
 enum-told-3 c = search needs
@@ -88,42 +88,42 @@ returns c =
     let p = c .before .before .before in
     let m = p .before .before in
     let s = m .before .before .before in
-    group-at-end _ _ _ _ _ _ (s .pre .0 .1)
-    (past-group-policy _ _ _ _ _ (s .pre .0 .0) (s .pre .1) _ _ (sym (ap kindMeaning (p .kind .given .1)) ∙ m .kind-of .ensures) _ (c .put-policy .ensures))
+    group-at-end _ _ _ _ _ _ (s .pre .0 .ends)
+    (past-group-policy _ _ _ _ _ (s .pre .0 .within) (s .pre .1) _ _ (sym (ap kindMeaning (p .kind .given .1)) ∙ m .kind-of .ensures) _ (c .put-policy .ensures))
 
 returns-2 : tie.Need-returns-2
 returns-2 c =
     let k = c .before .before in
     let m = k .before .before in
     let s = m .before .before .before in
-    group-at-end _ _ _ _ _ _ (s .pre .0 .1)
-    (past-group-join _ _ _ _ _ (s .pre .0 .0) (s .pre .1) and (sym (ap kindMeaning (k .enum-told .given .1)) ∙ m .kind-of .ensures) _ (c .join-last .ensures))
+    group-at-end _ _ _ _ _ _ (s .pre .0 .ends)
+    (past-group-join _ _ _ _ _ (s .pre .0 .within) (s .pre .1) and (sym (ap kindMeaning (k .enum-told .given .1)) ∙ m .kind-of .ensures) _ (c .join-last .ensures))
 
 returns-3 : tie.Need-returns-3
 returns-3 c =
     let k = c .before .before in
     let m = k .before .before in
     let s = m .before .before .before in
-    group-at-end _ _ _ _ _ _ (s .pre .0 .1)
-    (past-group-join _ _ _ _ _ (s .pre .0 .0) (s .pre .1) or (sym (ap kindMeaning (k .enum-told2 .given .1)) ∙ m .kind-of .ensures) _ (c .join-last2 .ensures))
+    group-at-end _ _ _ _ _ _ (s .pre .0 .ends)
+    (past-group-join _ _ _ _ _ (s .pre .0 .within) (s .pre .1) or (sym (ap kindMeaning (k .enum-told2 .given .1)) ∙ m .kind-of .ensures) _ (c .join-last2 .ensures))
 
 returns-4 : tie.Need-returns-4
 returns-4 c =
     let m = c .before .before in
     let s = m .before .before .before in
-    absurd (not-line _ _ (s .pre .0 .0) (s .pre .1 .node) (sym (ap kindMeaning (c .enum-told3 .given .1)) ∙ m .kind-of .ensures))
+    absurd (not-line _ _ (s .pre .0 .within) (s .pre .1 .node) (sym (ap kindMeaning (c .enum-told3 .given .1)) ∙ m .kind-of .ensures))
 
 returns-5 : tie.Need-returns-5
 returns-5 c =
     let m = c .before .before in
     let s = m .before .before .before in
-    absurd (not-unknown _ _ (s .pre .0 .0) (s .pre .1 .node) (sym (ap kindMeaning (c .enum-told4 .given .1)) ∙ m .kind-of .ensures))
+    absurd (not-unknown _ _ (s .pre .0 .within) (s .pre .1 .node) (sym (ap kindMeaning (c .enum-told4 .given .1)) ∙ m .kind-of .ensures))
 
 returns-6 : tie.Need-returns-6
 returns-6 c =
     let m = c .before .before in
     let s = m .before .before .before in
-    group-at-end _ _ _ _ _ _ (s .pre .0 .1) (past-group-exclusion _ _ _ _ _ (s .pre .0 .0) (s .pre .1) (sym (ap kindMeaning (c .enum-told5 .given .1)) ∙ m .kind-of .ensures))
+    group-at-end _ _ _ _ _ _ (s .pre .0 .ends) (past-group-exclusion _ _ _ _ _ (s .pre .0 .within) (s .pre .1) (sym (ap kindMeaning (c .enum-told5 .given .1)) ∙ m .kind-of .ensures))
 
 pub after-node-spec : {M : Type 1} → statement M
 after-node-spec =

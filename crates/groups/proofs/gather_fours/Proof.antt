@@ -23,15 +23,15 @@ room : (c : tie.In-loop Inv-loop μ-loop) → let place = c .before .loop .place
 room c = let i = c .before .loop .inv in (omega (arith, i .2, c .loop-test .taken), i .3 .more .within)
 
 mul-place : tie.Need-mul-place Inv-loop μ-loop
-mul-place c = let p = c .before .pre in omega (arith, p .2 .ordered, p .2 .within)
+mul-place c = let p = c .before .pre in omega (arith, p .0 .masks .ordered, p .0 .masks .within)
 
 loop-holds : tie.Need-loop-holds Inv-loop μ-loop
 loop-holds c =
     let p = c .before .pre in
-    (omega arith, omega (arith, p .2 .ordered), omega (arith, p .2 .ordered, p .3), subst (Gathering _ _ _ _ _ _) (whole _) (gathered-none _ _ _ _ _ (p .0) (p .2)))
+    (omega arith, omega (arith, p .0 .masks .ordered), omega (arith, p .0 .masks .ordered, p .1), subst (Gathering _ _ _ _ _ _) (whole _) (gathered-none _ _ _ _ _ (p .0 .room) (p .0 .masks)))
 
 mul-loop : tie.Need-mul-loop Inv-loop μ-loop
-mul-loop c = omega (arith, c .before .before .pre .2 .within)
+mul-loop c = omega (arith, c .before .before .pre .0 .masks .within)
 
 add-add-mask : tie.Need-add-add-mask Inv-loop μ-loop
 add-add-mask c = omega (arith, room (c .before))
@@ -46,7 +46,7 @@ add-mask-requires : tie.Need-add-mask-requires Inv-loop μ-loop
 add-mask-requires c κs =
     let t = c .before .before in
     let p = t .before .before .before .pre in
-    (t .before .loop .inv .3 .room, mask-small _ _ _ (t .before .loop .inv .3 .more) _ (omega (arith, t .before .loop .inv .0)) (omega arith) (omega (arith, room t)), p .1)
+    (t .before .loop .inv .3 .room, record { set = mask-small _ _ _ (t .before .loop .inv .3 .more) _ (omega (arith, t .before .loop .inv .0)) (omega arith) (omega (arith, room t)); within = p .0 .within })
 
 add-add-mask-2 : tie.Need-add-add-mask-2 Inv-loop μ-loop
 add-add-mask-2 c = omega (arith, room (c .before .before .before .before))
@@ -61,7 +61,7 @@ add-mask-requires-2 : tie.Need-add-mask-requires-2 Inv-loop μ-loop
 add-mask-requires-2 c κs =
     let t = c .before .before .before .before .before in
     let p = t .before .before .before .pre in
-    (c .before .before .add-mask .ensures .room, mask-small _ _ _ (t .before .loop .inv .3 .more) _ (omega (arith, t .before .loop .inv .0)) (omega arith) (omega (arith, room t)), p .1)
+    (c .before .before .add-mask .ensures .room, record { set = mask-small _ _ _ (t .before .loop .inv .3 .more) _ (omega (arith, t .before .loop .inv .0)) (omega arith) (omega (arith, room t)); within = p .0 .within })
 
 add-add-mask-3 : tie.Need-add-add-mask-3 Inv-loop μ-loop
 add-add-mask-3 c = omega (arith, room (c .before .before .before .before .before .before .before))
@@ -76,7 +76,7 @@ add-mask-requires-3 : tie.Need-add-mask-requires-3 Inv-loop μ-loop
 add-mask-requires-3 c κs =
     let t = c .before .before .before .before .before .before .before .before in
     let p = t .before .before .before .pre in
-    (c .before .before .add-mask2 .ensures .room, mask-small _ _ _ (t .before .loop .inv .3 .more) _ (omega (arith, t .before .loop .inv .0)) (omega arith) (omega (arith, room t)), p .1)
+    (c .before .before .add-mask2 .ensures .room, record { set = mask-small _ _ _ (t .before .loop .inv .3 .more) _ (omega (arith, t .before .loop .inv .0)) (omega arith) (omega (arith, room t)); within = p .0 .within })
 
 add-add-mask-4 : tie.Need-add-add-mask-4 Inv-loop μ-loop
 add-add-mask-4 c = omega (arith, room (c .before .before .before .before .before .before .before .before .before .before))
@@ -91,7 +91,7 @@ add-mask-requires-4 : tie.Need-add-mask-requires-4 Inv-loop μ-loop
 add-mask-requires-4 c κs =
     let t = c .before .before .before .before .before .before .before .before .before .before .before in
     let p = t .before .before .before .pre in
-    (c .before .before .add-mask3 .ensures .room, mask-small _ _ _ (t .before .loop .inv .3 .more) _ (omega (arith, t .before .loop .inv .0)) (omega arith) (omega (arith, room t)), p .1)
+    (c .before .before .add-mask3 .ensures .room, record { set = mask-small _ _ _ (t .before .loop .inv .3 .more) _ (omega (arith, t .before .loop .inv .0)) (omega arith) (omega (arith, room t)); within = p .0 .within })
 
 add-place : tie.Need-add-place Inv-loop μ-loop
 add-place c = omega (arith, room (c .before .before .before .before .before .before .before .before .before .before .before .before))

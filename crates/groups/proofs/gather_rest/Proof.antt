@@ -15,7 +15,7 @@ abbrev μ-loop : tie.MeasureT-loop
 μ-loop words from end group table₀ i₀ table i = end - i
 
 loop-holds : tie.Need-loop-holds Inv-loop μ-loop
-loop-holds c = let p = c .before .pre in gathered-none _ _ _ _ _ (p .0) (p .2)
+loop-holds c = let p = c .before .pre in gathered-none _ _ _ _ _ (p .room) (p .masks)
 
 -- the record at hand
 here : (c : tie.In-loop Inv-loop μ-loop) → c .before .loop .i < length (now (c .before .before .before .args .words)) / 4
@@ -34,7 +34,7 @@ shared-slice-read-add-mask : tie.Need-shared-slice-read-add-mask Inv-loop μ-loo
 shared-slice-read-add-mask c = omega (arith, here (c .before .before))
 
 add-mask-requires : tie.Need-add-mask-requires Inv-loop μ-loop
-add-mask-requires c κs = let t = c .before .before in let g = t .before .loop .inv in (g .room, mask-set (g .more) (t .loop-test .taken), t .before .before .before .pre .1)
+add-mask-requires c κs = let t = c .before .before in let g = t .before .loop .inv in (g .room, record { set = mask-set (g .more) (t .loop-test .taken); within = t .before .before .before .pre .within })
 
 add-i : tie.Need-add-i Inv-loop μ-loop
 add-i c = search needs

@@ -11,7 +11,7 @@ mul-result : tie.Need-mul-result
 mul-result c = search needs
 
 returns : tie.Need-returns
-returns c = within-test _ _ (c .pre .0) (c .pre .1)
+returns c = within-test _ _ (c .pre .set) (c .pre .within)
 
 pub is-within-spec : {M : Type 1} → statement M
 is-within-spec = tie.close (tie.spec sub-result mul-result returns)

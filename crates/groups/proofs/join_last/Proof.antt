@@ -70,7 +70,7 @@ loop-again c =
     let p = t .before .before .pre in
     let w = t .before .loop .inv .1 in (
       omega (arith, t .loop-test .taken),
-      written-more _ _ _ _ _ w (omega (arith, p .0, p .1, p .2, t .loop-test .taken)) (λ k l e. omega arith) _ (joined-here _ _ _ _ _ w _ (c .join-words .ensures)),
+      written-more _ _ _ _ _ w (omega (arith, p .room, p .least, p .most, t .loop-test .taken)) (λ k l e. omega arith) _ (joined-here _ _ _ _ _ w _ (c .join-words .ensures)),
     )
 
 returns : tie.Need-returns Inv-loop μ-loop

@@ -29,7 +29,7 @@ add-block-overlap : tie.Need-add-block-overlap Inv-loop μ-loop
 add-block-overlap c = search needs
 
 block-overlap-requires : tie.Need-block-overlap-requires Inv-loop μ-loop
-block-overlap-requires c κs = let p = c .before .before .pre .1 in (p .0, omega (arith, p .1, c .loop-test .taken), p .2)
+block-overlap-requires c κs = let p = c .before .before .pre .1 in (p .0, omega (arith, p .1, c .loop-test .taken))
 
 mul-policy-word : tie.Need-mul-policy-word Inv-loop μ-loop
 mul-policy-word c = search needs
@@ -65,7 +65,7 @@ loop-again c =
     let s = t .before .before in
     let p = s .pre .0 in (
       omega (arith, t .loop-test .taken),
-      written-more _ _ _ _ _ (t .before .loop .inv .1) (omega (arith, p .0, p .1, t .loop-test .taken)) (λ k l e. omega arith) _
+      written-more _ _ _ _ _ (t .before .loop .inv .1) (omega (arith, p .room, p .below, t .loop-test .taken)) (λ k l e. omega arith) _
           (block-told _ _ (s .args .t3) (s .args .turn) (s .args .still) _ _ _ (o .block-overlap .ensures) (c .policy-word .ensures)),
     )
 

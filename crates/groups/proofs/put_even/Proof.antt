@@ -52,7 +52,7 @@ loop-again c =
     let t = c .before in
     let p = t .before .before .pre in (
       omega (arith, t .loop-test .taken),
-      written-more _ _ _ _ _ (t .before .loop .inv .1) (omega (arith, p .0, p .1, t .loop-test .taken)) (λ k l e. omega arith) _ (c .policy-word .ensures),
+      written-more _ _ _ _ _ (t .before .loop .inv .1) (omega (arith, p .room, p .below, t .loop-test .taken)) (λ k l e. omega arith) _ (c .policy-word .ensures),
     )
 
 returns : tie.Need-returns Inv-loop μ-loop

@@ -26,7 +26,7 @@ add-lines-inside : tie.Need-add-lines-inside
 add-lines-inside c = search needs
 
 lines-inside-requires : tie.Need-lines-inside-requires
-lines-inside-requires c κs = let p = c .before .before .pre in (p .2, policy-masks _ _ _ (p .3))
+lines-inside-requires c κs = let p = c .before .before .pre .1 in (p .1, policy-masks _ _ _ (p .0))
 
 low-overlap-requires : tie.Need-low-overlap-requires
 low-overlap-requires c κs = search needs
@@ -43,8 +43,8 @@ mul-block-overlap c = search needs
 block-overlap-requires : tie.Need-block-overlap-requires
 block-overlap-requires c κs =
     let l = c .before .before in
-    let p = l .before .before .before .before .pre in
-    (p .3 .set, omega (arith, p .2), l .low-overlap .ensures)
+    let p = l .before .before .before .before .pre .1 in
+    (record { set = p .0 .set; told = l .low-overlap .ensures }, omega (arith, p .1))
 
 put-even-requires : tie.Need-put-even-requires
 put-even-requires c κs = search needs
@@ -62,8 +62,8 @@ returns c =
     let s = f .before .before .before in
     written-as _ _ _ _ _ _
     (even-told (listedAt (now (s .args .words)) (s .args .at) (s .args .quiet) (s .args .turned)) (s .args .group) (f .lines-inside .result) _ _
-    (policy-found _ _ _ (s .pre .3) someLine _ (f .lines-inside .result) (f .lines-inside .ensures)) (i .before .all-if .ensures) (i .all-if2 .ensures)
-    _ (b .block-overlap .ensures) (even-by _ _ (s .pre .3 .set) (s .pre .2) _ (e .is-even .ensures) (c .if1 .taken))) (v .put-even .ensures)
+    (policy-found _ _ _ (s .pre .1 .0) someLine _ (f .lines-inside .result) (f .lines-inside .ensures)) (i .before .all-if .ensures) (i .all-if2 .ensures)
+    _ (b .block-overlap .ensures) (even-by _ _ (s .pre .1 .0 .set) (s .pre .1 .1) _ (e .is-even .ensures) (c .if1 .taken))) (v .put-even .ensures)
 
 put-blocks-requires : tie.Need-put-blocks-requires
 put-blocks-requires c κs = search needs
@@ -77,7 +77,7 @@ returns-2 c =
     written-over _ _ _ _ _ _ _ (v .put-even .ensures)
     (written-as _ _ _ _ _ _
     (blocks-told (listedAt (now (s .args .words)) (s .args .at) (s .args .quiet) (s .args .turned)) (s .args .group) (f .lines-inside .result) _ _
-    (policy-found _ _ _ (s .pre .3) someLine _ (f .lines-inside .result) (f .lines-inside .ensures)) (i .before .all-if .ensures) (i .all-if2 .ensures))
+    (policy-found _ _ _ (s .pre .1 .0) someLine _ (f .lines-inside .result) (f .lines-inside .ensures)) (i .before .all-if .ensures) (i .all-if2 .ensures))
     (c .put-blocks .ensures))
 
 pub put-policy-spec : {M : Type 1} → statement M

@@ -67,14 +67,14 @@ loop-again c =
     let w = t .before .loop .inv .1 in (
       omega (arith, t .loop-test .taken),
       written-more _ _ _ _ _ w (omega (arith, p .0, t .loop-test .taken)) (λ k l e. omega arith) _
-          (high-word _ _ _ _ _ (omega (arith, p .2)) (t .loop-test .taken) (bit-is (s .args .signal - 6) 64 (omega (arith, p .2))) w),
+          (high-word _ _ _ _ _ (omega (arith, p .1 .most)) (t .loop-test .taken) (bit-is (s .args .signal - 6) 64 (omega (arith, p .1 .most))) w),
     )
 
 returns : tie.Need-returns Inv-loop μ-loop
 returns c =
     let l = c .before .loop in
     let p = c .before .before .pre in
-    spread-by _ _ _ (p .1) (high-spread _ _ _ (p .0) (written-all _ _ _ 16 (l .k) _ (omega (arith, l .inv .0, c .loop-test .left)) (l .inv .1)))
+    spread-by _ _ _ (p .1 .least) (high-spread _ _ _ (p .0) (written-all _ _ _ 16 (l .k) _ (omega (arith, l .inv .0, c .loop-test .left)) (l .inv .1)))
 
 pub spread-high-spec : {M : Type 1} → statement M
 spread-high-spec =

@@ -26,12 +26,12 @@ policy-value-requires : tie.Need-policy-value-requires
 policy-value-requires c κs =
     let m = c .before .before .before in
     let s = m .before .before .before in
-    (s .pre .0, policy-lines _ _ (s .pre .0) (s .pre .2 .node) _ _ (sym (ap kindMeaning (c .before .kind .given .1)) ∙ m .kind-of .ensures) _ (s .pre .1))
+    (s .pre .0 .within, policy-lines _ _ (s .pre .0 .within) (s .pre .1 .node) _ _ (sym (ap kindMeaning (c .before .kind .given .1)) ∙ m .kind-of .ensures) _ (s .pre .0 .ends))
 
 with-value-requires : tie.Need-with-value-requires
 with-value-requires c κs =
     let s = c .before .before .before .before .before .before .before in
-    values-small _ _ _ _ (s .pre .0) (s .pre .2)
+    values-small _ _ _ _ (s .pre .0 .within) (s .pre .1)
 
 enum-told : tie.Need-enum-told
 enum-told c = search needs
@@ -59,40 +59,40 @@ returns c =
     let k = c .before .before .before in
     let m = k .before .before in
     let s = m .before .before .before in
-    at-end _ _ _ _ _ (s .pre .1)
-    (past-policy _ _ _ _ (s .pre .0) (s .pre .2) _ _ (sym (ap kindMeaning (k .kind .given .1)) ∙ m .kind-of .ensures) _ _ (c .before .policy-value .ensures) (c .with-value .ensures))
+    at-end _ _ _ _ _ (s .pre .0 .ends)
+    (past-policy _ _ _ _ (s .pre .0 .within) (s .pre .1) _ _ (sym (ap kindMeaning (k .kind .given .1)) ∙ m .kind-of .ensures) _ _ (c .before .policy-value .ensures) (c .with-value .ensures))
 
 returns-2 : tie.Need-returns-2
 returns-2 c =
     let m = c .before .before .before in
     let s = m .before .before .before in
-    at-end _ _ _ _ _ (s .pre .1)
-    (past-join _ _ _ _ (s .pre .0) (s .pre .2) and (sym (ap kindMeaning (c .before .enum-told .given .1)) ∙ m .kind-of .ensures) _ (c .with-join .ensures))
+    at-end _ _ _ _ _ (s .pre .0 .ends)
+    (past-join _ _ _ _ (s .pre .0 .within) (s .pre .1) and (sym (ap kindMeaning (c .before .enum-told .given .1)) ∙ m .kind-of .ensures) _ (c .with-join .ensures))
 
 returns-3 : tie.Need-returns-3
 returns-3 c =
     let m = c .before .before .before in
     let s = m .before .before .before in
-    at-end _ _ _ _ _ (s .pre .1)
-    (past-join _ _ _ _ (s .pre .0) (s .pre .2) or (sym (ap kindMeaning (c .before .enum-told2 .given .1)) ∙ m .kind-of .ensures) _ (c .with-join2 .ensures))
+    at-end _ _ _ _ _ (s .pre .0 .ends)
+    (past-join _ _ _ _ (s .pre .0 .within) (s .pre .1) or (sym (ap kindMeaning (c .before .enum-told2 .given .1)) ∙ m .kind-of .ensures) _ (c .with-join2 .ensures))
 
 returns-4 : tie.Need-returns-4
 returns-4 c =
     let m = c .before .before in
     let s = m .before .before .before in
-    absurd (not-line _ _ (s .pre .0) (s .pre .2 .node) (sym (ap kindMeaning (c .enum-told3 .given .1)) ∙ m .kind-of .ensures))
+    absurd (not-line _ _ (s .pre .0 .within) (s .pre .1 .node) (sym (ap kindMeaning (c .enum-told3 .given .1)) ∙ m .kind-of .ensures))
 
 returns-5 : tie.Need-returns-5
 returns-5 c =
     let m = c .before .before in
     let s = m .before .before .before in
-    absurd (not-unknown _ _ (s .pre .0) (s .pre .2 .node) (sym (ap kindMeaning (c .enum-told4 .given .1)) ∙ m .kind-of .ensures))
+    absurd (not-unknown _ _ (s .pre .0 .within) (s .pre .1 .node) (sym (ap kindMeaning (c .enum-told4 .given .1)) ∙ m .kind-of .ensures))
 
 returns-6 : tie.Need-returns-6
 returns-6 c =
     let m = c .before .before in
     let s = m .before .before .before in
-    at-end _ _ _ _ _ (s .pre .1) (past-exclusion _ _ _ _ (s .pre .0) (s .pre .2) (sym (ap kindMeaning (c .enum-told5 .given .1)) ∙ m .kind-of .ensures))
+    at-end _ _ _ _ _ (s .pre .0 .ends) (past-exclusion _ _ _ _ (s .pre .0 .within) (s .pre .1) (sym (ap kindMeaning (c .enum-told5 .given .1)) ∙ m .kind-of .ensures))
 
 pub after-node-spec : {M : Type 1} → statement M
 after-node-spec =

@@ -20,7 +20,7 @@ next-index-requires : tie.Need-next-index-requires Inv-loop μ-loop
 next-index-requires c κs = (c .loop-test .taken, c .before .loop .inv .node)
 
 after-node-requires : tie.Need-after-node-requires Inv-loop μ-loop
-after-node-requires c κs = (c .before .loop-test .taken, c .next-index .ensures, c .before .before .loop .inv)
+after-node-requires c κs = (record { within = c .before .loop-test .taken; ends = c .next-index .ensures }, c .before .before .loop .inv)
 
 loop-less : tie.Need-loop-less Inv-loop μ-loop
 unfolding nodeEnd
