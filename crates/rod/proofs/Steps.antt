@@ -20,7 +20,7 @@ use Rattle.layout.proofs.SoundNodes.{lines-fit, sound-well-formed}
 use Rattle.layout.proofs.Places.{from-cons, from-nil}
 use Rattle.layout.proofs.Runs.{behindLines, behind-drop, behind-no-line, behind-nodes, behind-next, behind-judged, from-behind, run-in-words, nodes-here}
 use Rattle.rod.specs.Reading.{policyValue, joined, says, rodAnswer}
-use Rattle.rod.specs.Values.{bitsOf, ValueAdded, LastJoined, AllSets, LinesTo, listedAt, nodeEnd, NodeAt, ReadingUnderway}
+use Rattle.rod.specs.Values.{bitsOf, ValueAdded, LastJoined, AllSets, LinesTo, listedAt, nodeEnd, NodeTo, NodeAt, ReadingUnderway}
 use Rattle.rod.proofs.ValueLaws.{bits-below, one-value}
 
 all-sets : (mask : ℕ) (ls : List ℕ) → LinesFit mask ls → AllSets ls
@@ -141,52 +141,59 @@ unfolding recordsFrom noRecord bitsOf says first-node
 begins ws set v =
     record { node = first-node ws v; stack = []; held = refl; height = refl; few = omega arith; atMost = omega arith; same = refl }
 
-module _ (ws : List ℕ) (set at values : ℕ) (lt : at < length ws / 4) (u : ReadingUnderway ws set at values) where
+-- past a node that ends before index `end`
+module _ (ws : List ℕ) (set at end values : ℕ) (n : NodeTo ws at end) (u : ReadingUnderway ws set at values) where
   pub values-small : values ≤ 65535
   values-small = omega (arith, bits-below (u .stack) 16 (omega (arith, u .height, u .few, u .atMost)), u .held)
 
   same-here : (k : Kind) → k ≡ kindOf (getD ws (at * 4) 0)
       → getD (run joined (policyValue set) (nodeThen k (getD ws (at * 4 + 1) 0) (leadingLines (recordsFrom ws (at + 1))) (nodes (recordsFrom ws (nodeEnd ws at)))) (u .stack)) 0 false ≡ says ws set
-  same-here k e = taken-here ws at lt (u .node) set (u .stack) k e ∙ u .same
+  same-here k e = taken-here ws at (n .within) (u .node) set (u .stack) k e ∙ u .same
+
+  -- at the index that the code has
+  at-end : (r : ℕ) → ReadingUnderway ws set (nodeEnd ws at) r → ReadingUnderway ws set end r
+  at-end r v = subst (λ (x : ℕ). ReadingUnderway ws set x r) (sym (n .ends)) v
 
   -- a policy adds its value
   pub past-policy : (quiet turned : Bool) → policy quiet turned ≡ kindOf (getD ws (at * 4) 0) → (v : Bool) (r : ℕ) → v ≡ policyValue set (listedAt ws at quiet turned)
-      → ValueAdded v values r → ReadingUnderway ws set (nodeEnd ws at) r
+      → ValueAdded v values r → ReadingUnderway ws set end r
   unfolding soFarAfter nodeThen run node-after
   past-policy quiet turned e v r ev er =
-      let k = kept-policy (at + 1) (u .node .above) (recordAt ws at) (kinds (recordsFrom ws (at + 1))) quiet turned (step ws at lt (u .node) (policy quiet turned) e .0) in
-      record {
-        node = node-after ws at lt (u .node) (policy quiet turned) e;
+      let k = kept-policy (at + 1) (u .node .above) (recordAt ws at) (kinds (recordsFrom ws (at + 1))) quiet turned (step ws at (n .within) (u .node) (policy quiet turned) e .0) in
+      at-end r
+      (record {
+        node = node-after ws at (n .within) (u .node) (policy quiet turned) e;
         stack = v ∷ u .stack;
         held = er (u .stack) (u .held);
         height = omega (arith, u .height);
         few = omega (arith, u .few);
         atMost = k .3;
         same = ap (λ (x : Bool). getD (run joined (policyValue set) (nodes (recordsFrom ws (nodeEnd ws at))) (x ∷ u .stack)) 0 false) ev ∙ same-here (policy quiet turned) e;
-      }
+      })
 
   -- an exclusion leaves the values as they are
-  pub past-exclusion : exclusion ≡ kindOf (getD ws (at * 4) 0) → ReadingUnderway ws set (nodeEnd ws at) values
+  pub past-exclusion : exclusion ≡ kindOf (getD ws (at * 4) 0) → ReadingUnderway ws set end values
   unfolding soFarAfter nodeThen node-after
   past-exclusion e =
-      record {
-        node = node-after ws at lt (u .node) exclusion e;
+      at-end values
+      (record {
+        node = node-after ws at (n .within) (u .node) exclusion e;
         stack = u .stack;
         held = u .held;
         height = u .height;
         few = u .few;
         atMost = u .atMost;
         same = same-here exclusion e;
-      }
+      })
 
   -- a join takes two values and leaves one
   pub past-join : (j : Join) → Kind.join j ≡ kindOf (getD ws (at * 4) 0) → (r : ℕ)
-      → LastJoined j values r → ReadingUnderway ws set (nodeEnd ws at) r
+      → LastJoined j values r → ReadingUnderway ws set end r
   unfolding soFarAfter nodeThen run joinedLast node-after
-  past-join j e r er = go (u .stack) (u .held) (u .height) (same-here (Kind.join j) e)
+  past-join j e r er = at-end r (go (u .stack) (u .held) (u .height) (same-here (Kind.join j) e))
     where
       two : 2 ≤ u .node .above .values
-      two = kept-join (at + 1) (u .node .above) (recordAt ws at) (kinds (recordsFrom ws (at + 1))) j (step ws at lt (u .node) (Kind.join j) e .0) .3
+      two = kept-join (at + 1) (u .node .above) (recordAt ws at) (kinds (recordsFrom ws (at + 1))) j (step ws at (n .within) (u .node) (Kind.join j) e .0) .3
 
       go : (st : List Bool) → values ≡ bitsOf st → u .node .above .values ≡ length st
           → getD (run joined (policyValue set) (nodeThen (Kind.join j) (getD ws (at * 4 + 1) 0) (leadingLines (recordsFrom ws (at + 1))) (nodes (recordsFrom ws (nodeEnd ws at)))) st) 0 false ≡ says ws set
@@ -195,7 +202,7 @@ module _ (ws : List ℕ) (set at values : ℕ) (lt : at < length ws / 4) (u : Re
       go (b ∷ []) h l s = absurd (omega (arith, two))
       go (b ∷ a ∷ st) h l s =
           record {
-            node = node-after ws at lt (u .node) (Kind.join j) e;
+            node = node-after ws at (n .within) (u .node) (Kind.join j) e;
             stack = joined j a b ∷ st;
             held = er a b st h;
             height = omega (arith, l, two);
@@ -203,10 +210,6 @@ module _ (ws : List ℕ) (set at values : ℕ) (lt : at < length ws / 4) (u : Re
             atMost = u .atMost;
             same = s;
           }
-
--- the same at the index that the code has
-pub at-end : (ws : List ℕ) (set at end values : ℕ) → end ≡ nodeEnd ws at → ReadingUnderway ws set (nodeEnd ws at) values → ReadingUnderway ws set end values
-at-end ws set at end values e u = subst (λ (x : ℕ). ReadingUnderway ws set x values) (sym e) u
 
 -- after the last record one value remains
 pub ends : (ws : List ℕ) (set at values : ℕ) → length ws / 4 ≤ at → ReadingUnderway ws set at values → eqb values 1 ≡ says ws set

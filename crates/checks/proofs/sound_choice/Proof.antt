@@ -193,11 +193,8 @@ loop-again c =
       given w .before .before .reading .ensures .room,
       λ later. empty-is (given w),
       next-group _ _ (l .before .loop .inv .3) (sym (told w) ∙ ap foundMeaning (c .before .before .enum-told .given .1)),
-      judged-on c .0 ∙ ap (λ (n : ℕ). countBelow n (permitted (wordsOf l))) (next (groupOf l)),
+      judged-on c .0 ∙ ap (λ (n : ℕ). countBelow n (permitted (wordsOf l))) (omega arith),
     )
-  where
-    next : (g : ℕ) → 1024 * g + 1024 ≡ 1024 * (g + 1)
-    next g = omega arith
 
 answer-requires-2 : tie.Need-answer-requires-2 Inv-loop μ-loop
 answer-requires-2 c κs = search needs
@@ -209,10 +206,7 @@ returns-2 c =
     let i = l .before .loop .inv in
     let last : l .before .loop .group ≡ 64 = omega (arith, i .0, l .loop-test .left) in
     c .answer2 .ensures
-    ∙ chosen-by _ (s .pre) _ (i .2 (omega (arith, last))) none (none-at-all _ _ (i .3) last) _ (i .4 ∙ ap (λ (n : ℕ). countBelow n (permitted (now (s .args .words)))) (whole last))
-  where
-    whole : {g : ℕ} → g ≡ 64 → 1024 * g ≡ 65536
-    whole e = omega arith
+    ∙ chosen-by _ (s .pre) _ (i .2 (omega (arith, last))) none (none-at-all _ _ (i .3) last) _ (i .4 ∙ ap (λ (n : ℕ). countBelow n (permitted (now (s .args .words)))) (omega (arith, last)))
 
 pub sound-choice-spec : {M : Type 1} → statement M
 sound-choice-spec =

@@ -4,7 +4,7 @@ use native.Mathlib.Omega.{arith}
 use Rattle.layout.specs.Records.{and, or}
 use Rattle.layout.specs.Steps.{kindMeaning}
 use Rattle.rod.proofs.Steps.{not-line, not-unknown}
-use Rattle.groups.proofs.GroupSteps.{policy-here, policy-room, past-group-policy, two-values, values-room, past-group-join, past-group-exclusion, group-at-end}
+use Rattle.groups.proofs.GroupSteps.{policy-here, policy-room, past-group-policy, two-values, past-group-join, past-group-exclusion}
 use borrow.Author.Needs.{needs}
 use Rattle.groups.proofs.after_node.Statement.{statement}
 use Rattle.groups.proofs.after_node.Tie as tie
@@ -29,9 +29,8 @@ put-policy-requires c κs =
     let p = c .before .before in
     let m = p .before .before in
     let s = m .before .before .before in
-    let u = s .pre .1 in
     let e = sym (ap kindMeaning (p .kind .given .1)) ∙ m .kind-of .ensures in
-    (record { room = u .room; below = policy-room _ _ _ _ _ (s .pre .0 .within) u _ _ e }, (policy-here _ _ _ _ _ (s .pre .0 .within) u _ _ e _ (s .pre .0 .ends), u .within))
+    (policy-room _ _ _ _ _ _ (s .pre .0) (s .pre .1) _ _ e, (policy-here _ _ _ _ _ _ (s .pre .0) (s .pre .1) _ _ e, s .pre .1 .within))
 
 add-result : tie.Need-add-result
 add-result c = search needs
@@ -44,16 +43,14 @@ join-last-requires c κs =
     let k = c .before in
     let m = k .before .before in
     let s = m .before .before .before in
-    let u = s .pre .1 in
-    let e = sym (ap kindMeaning (k .enum-told .given .1)) ∙ m .kind-of .ensures in
-    record { room = u .room; least = two-values _ _ _ _ _ (s .pre .0 .within) u and e; most = values-room _ _ _ _ _ (s .pre .0 .within) u and e }
+    two-values _ _ _ _ _ _ (s .pre .0) (s .pre .1) and (sym (ap kindMeaning (k .enum-told .given .1)) ∙ m .kind-of .ensures)
 
 sub-result : tie.Need-sub-result
 sub-result c =
     let k = c .before .before in
     let m = k .before .before in
     let s = m .before .before .before in
-    omega (arith, two-values _ _ _ _ _ (s .pre .0 .within) (s .pre .1) and (sym (ap kindMeaning (k .enum-told .given .1)) ∙ m .kind-of .ensures))
+    omega (arith, two-values _ _ _ _ _ _ (s .pre .0) (s .pre .1) and (sym (ap kindMeaning (k .enum-told .given .1)) ∙ m .kind-of .ensures) .least)
 
 enum-told-2 : tie.Need-enum-told-2
 enum-told-2 c = search needs
@@ -63,16 +60,14 @@ join-last-requires-2 c κs =
     let k = c .before in
     let m = k .before .before in
     let s = m .before .before .before in
-    let u = s .pre .1 in
-    let e = sym (ap kindMeaning (k .enum-told2 .given .1)) ∙ m .kind-of .ensures in
-    record { room = u .room; least = two-values _ _ _ _ _ (s .pre .0 .within) u or e; most = values-room _ _ _ _ _ (s .pre .0 .within) u or e }
+    two-values _ _ _ _ _ _ (s .pre .0) (s .pre .1) or (sym (ap kindMeaning (k .enum-told2 .given .1)) ∙ m .kind-of .ensures)
 
 sub-result-2 : tie.Need-sub-result-2
 sub-result-2 c =
     let k = c .before .before in
     let m = k .before .before in
     let s = m .before .before .before in
-    omega (arith, two-values _ _ _ _ _ (s .pre .0 .within) (s .pre .1) or (sym (ap kindMeaning (k .enum-told2 .given .1)) ∙ m .kind-of .ensures))
+    omega (arith, two-values _ _ _ _ _ _ (s .pre .0) (s .pre .1) or (sym (ap kindMeaning (k .enum-told2 .given .1)) ∙ m .kind-of .ensures) .least)
 
 enum-told-3 : tie.Need-enum-told-3
 enum-told-3 c = search needs
@@ -88,24 +83,21 @@ returns c =
     let p = c .before .before .before in
     let m = p .before .before in
     let s = m .before .before .before in
-    group-at-end _ _ _ _ _ _ (s .pre .0 .ends)
-    (past-group-policy _ _ _ _ _ (s .pre .0 .within) (s .pre .1) _ _ (sym (ap kindMeaning (p .kind .given .1)) ∙ m .kind-of .ensures) _ (c .put-policy .ensures))
+    past-group-policy _ _ _ _ _ _ (s .pre .0) (s .pre .1) _ _ (sym (ap kindMeaning (p .kind .given .1)) ∙ m .kind-of .ensures) _ (c .put-policy .ensures)
 
 returns-2 : tie.Need-returns-2
 returns-2 c =
     let k = c .before .before in
     let m = k .before .before in
     let s = m .before .before .before in
-    group-at-end _ _ _ _ _ _ (s .pre .0 .ends)
-    (past-group-join _ _ _ _ _ (s .pre .0 .within) (s .pre .1) and (sym (ap kindMeaning (k .enum-told .given .1)) ∙ m .kind-of .ensures) _ (c .join-last .ensures))
+    past-group-join _ _ _ _ _ _ (s .pre .0) (s .pre .1) and (sym (ap kindMeaning (k .enum-told .given .1)) ∙ m .kind-of .ensures) _ (c .join-last .ensures)
 
 returns-3 : tie.Need-returns-3
 returns-3 c =
     let k = c .before .before in
     let m = k .before .before in
     let s = m .before .before .before in
-    group-at-end _ _ _ _ _ _ (s .pre .0 .ends)
-    (past-group-join _ _ _ _ _ (s .pre .0 .within) (s .pre .1) or (sym (ap kindMeaning (k .enum-told2 .given .1)) ∙ m .kind-of .ensures) _ (c .join-last2 .ensures))
+    past-group-join _ _ _ _ _ _ (s .pre .0) (s .pre .1) or (sym (ap kindMeaning (k .enum-told2 .given .1)) ∙ m .kind-of .ensures) _ (c .join-last2 .ensures)
 
 returns-4 : tie.Need-returns-4
 returns-4 c =
@@ -123,7 +115,7 @@ returns-6 : tie.Need-returns-6
 returns-6 c =
     let m = c .before .before in
     let s = m .before .before .before in
-    group-at-end _ _ _ _ _ _ (s .pre .0 .ends) (past-group-exclusion _ _ _ _ _ (s .pre .0 .within) (s .pre .1) (sym (ap kindMeaning (c .enum-told5 .given .1)) ∙ m .kind-of .ensures))
+    past-group-exclusion _ _ _ _ _ _ (s .pre .0) (s .pre .1) (sym (ap kindMeaning (c .enum-told5 .given .1)) ∙ m .kind-of .ensures)
 
 pub after-node-spec : {M : Type 1} → statement M
 after-node-spec =

@@ -2,7 +2,7 @@
 use mathlib.Core.Path.{sym, ap, _∙_}
 use Rattle.layout.specs.Records.{and, or}
 use Rattle.layout.specs.Steps.{kindMeaning}
-use Rattle.rod.proofs.Steps.{not-line, not-unknown, policy-lines, values-small, past-policy, past-join, past-exclusion, at-end}
+use Rattle.rod.proofs.Steps.{not-line, not-unknown, policy-lines, values-small, past-policy, past-join, past-exclusion}
 use borrow.Author.Needs.{needs}
 use Rattle.rod.proofs.after_node.Statement.{statement}
 use Rattle.rod.proofs.after_node.Tie as tie
@@ -31,7 +31,7 @@ policy-value-requires c κs =
 with-value-requires : tie.Need-with-value-requires
 with-value-requires c κs =
     let s = c .before .before .before .before .before .before .before in
-    values-small _ _ _ _ (s .pre .0 .within) (s .pre .1)
+    values-small _ _ _ _ _ (s .pre .0) (s .pre .1)
 
 enum-told : tie.Need-enum-told
 enum-told c = search needs
@@ -59,22 +59,19 @@ returns c =
     let k = c .before .before .before in
     let m = k .before .before in
     let s = m .before .before .before in
-    at-end _ _ _ _ _ (s .pre .0 .ends)
-    (past-policy _ _ _ _ (s .pre .0 .within) (s .pre .1) _ _ (sym (ap kindMeaning (k .kind .given .1)) ∙ m .kind-of .ensures) _ _ (c .before .policy-value .ensures) (c .with-value .ensures))
+    past-policy _ _ _ _ _ (s .pre .0) (s .pre .1) _ _ (sym (ap kindMeaning (k .kind .given .1)) ∙ m .kind-of .ensures) _ _ (c .before .policy-value .ensures) (c .with-value .ensures)
 
 returns-2 : tie.Need-returns-2
 returns-2 c =
     let m = c .before .before .before in
     let s = m .before .before .before in
-    at-end _ _ _ _ _ (s .pre .0 .ends)
-    (past-join _ _ _ _ (s .pre .0 .within) (s .pre .1) and (sym (ap kindMeaning (c .before .enum-told .given .1)) ∙ m .kind-of .ensures) _ (c .with-join .ensures))
+    past-join _ _ _ _ _ (s .pre .0) (s .pre .1) and (sym (ap kindMeaning (c .before .enum-told .given .1)) ∙ m .kind-of .ensures) _ (c .with-join .ensures)
 
 returns-3 : tie.Need-returns-3
 returns-3 c =
     let m = c .before .before .before in
     let s = m .before .before .before in
-    at-end _ _ _ _ _ (s .pre .0 .ends)
-    (past-join _ _ _ _ (s .pre .0 .within) (s .pre .1) or (sym (ap kindMeaning (c .before .enum-told2 .given .1)) ∙ m .kind-of .ensures) _ (c .with-join2 .ensures))
+    past-join _ _ _ _ _ (s .pre .0) (s .pre .1) or (sym (ap kindMeaning (c .before .enum-told2 .given .1)) ∙ m .kind-of .ensures) _ (c .with-join2 .ensures)
 
 returns-4 : tie.Need-returns-4
 returns-4 c =
@@ -92,7 +89,7 @@ returns-6 : tie.Need-returns-6
 returns-6 c =
     let m = c .before .before in
     let s = m .before .before .before in
-    at-end _ _ _ _ _ (s .pre .0 .ends) (past-exclusion _ _ _ _ (s .pre .0 .within) (s .pre .1) (sym (ap kindMeaning (c .enum-told5 .given .1)) ∙ m .kind-of .ensures))
+    past-exclusion _ _ _ _ _ (s .pre .0) (s .pre .1) (sym (ap kindMeaning (c .enum-told5 .given .1)) ∙ m .kind-of .ensures)
 
 pub after-node-spec : {M : Type 1} → statement M
 after-node-spec =
