@@ -15,14 +15,14 @@ returns c = let p = c .before .before .pre in barred-group _ (c .before .before 
 gather-requires : tie.Need-gather-requires
 gather-requires c κs = let p = c .before .before .before .pre in record { room = refl; within = p .within; masks = pair-masks _ _ (p .sound) }
 
-spread-requires : tie.Need-spread-requires
-spread-requires c κs = search needs
-
 returns-2 : tie.Need-returns-2
 returns-2 c =
     let g = c .before .before in
     let p = g .before .before .before .before .pre in
     barred-reached _ _ _ _ (p .sound) (p .within) (c .spread .ensures _ _ (reached-none _ _ _ _ _ (g .gather .ensures)))
 
+-- the other needs are found by search
 pub group-barred-spec : {M : Type 1} → statement M
-group-barred-spec = tie.close (tie.spec returns gather-requires spread-requires returns-2)
+group-barred-spec =
+    tie.close
+    (tie.spec returns gather-requires (λ c κs. search needs) returns-2)

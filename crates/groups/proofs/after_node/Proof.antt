@@ -9,21 +9,6 @@ use borrow.Author.Needs.{needs}
 use Rattle.groups.proofs.after_node.Statement.{statement}
 use Rattle.groups.proofs.after_node.Tie as tie
 
-mul-kind-of : tie.Need-mul-kind-of
-mul-kind-of c = search needs
-
-mul-kind-of-2 : tie.Need-mul-kind-of-2
-mul-kind-of-2 c = search needs
-
-shared-slice-read-kind-of : tie.Need-shared-slice-read-kind-of
-shared-slice-read-kind-of c = search needs
-
-kind-of-requires : tie.Need-kind-of-requires
-kind-of-requires c κs = search needs
-
-enum-known-kind : tie.Need-enum-known-kind
-enum-known-kind c = search needs
-
 put-policy-requires : tie.Need-put-policy-requires
 put-policy-requires c κs =
     let p = c .before .before in
@@ -31,12 +16,6 @@ put-policy-requires c κs =
     let s = m .before .before .before in
     let e = sym (ap kindMeaning (p .kind .given .1)) ∙ m .kind-of .ensures in
     (policy-room _ _ _ _ _ _ (s .pre .0) (s .pre .1) _ _ e, (policy-here _ _ _ _ _ _ (s .pre .0) (s .pre .1) _ _ e, s .pre .1 .within))
-
-add-result : tie.Need-add-result
-add-result c = search needs
-
-enum-told : tie.Need-enum-told
-enum-told c = search needs
 
 join-last-requires : tie.Need-join-last-requires
 join-last-requires c κs =
@@ -52,9 +31,6 @@ sub-result c =
     let s = m .before .before .before in
     omega (arith, two-values _ _ _ _ _ _ (s .pre .0) (s .pre .1) and (sym (ap kindMeaning (k .enum-told .given .1)) ∙ m .kind-of .ensures) .least)
 
-enum-told-2 : tie.Need-enum-told-2
-enum-told-2 c = search needs
-
 join-last-requires-2 : tie.Need-join-last-requires-2
 join-last-requires-2 c κs =
     let k = c .before in
@@ -68,15 +44,6 @@ sub-result-2 c =
     let m = k .before .before in
     let s = m .before .before .before in
     omega (arith, two-values _ _ _ _ _ _ (s .pre .0) (s .pre .1) or (sym (ap kindMeaning (k .enum-told2 .given .1)) ∙ m .kind-of .ensures) .least)
-
-enum-told-3 : tie.Need-enum-told-3
-enum-told-3 c = search needs
-
-enum-told-4 : tie.Need-enum-told-4
-enum-told-4 c = search needs
-
-enum-told-5 : tie.Need-enum-told-5
-enum-told-5 c = search needs
 
 returns : tie.Need-returns
 returns c =
@@ -117,29 +84,11 @@ returns-6 c =
     let s = m .before .before .before in
     past-group-exclusion _ _ _ _ _ _ (s .pre .0) (s .pre .1) (sym (ap kindMeaning (c .enum-told5 .given .1)) ∙ m .kind-of .ensures)
 
+-- the other needs are found by search
 pub after-node-spec : {M : Type 1} → statement M
 after-node-spec =
     tie.close
-    (tie.spec
-    mul-kind-of
-    mul-kind-of-2
-    shared-slice-read-kind-of
-    kind-of-requires
-    enum-known-kind
-    put-policy-requires
-    add-result
-    enum-told
-    join-last-requires
-    sub-result
-    enum-told-2
-    join-last-requires-2
-    sub-result-2
-    enum-told-3
-    enum-told-4
-    enum-told-5
-    returns
-    returns-2
-    returns-3
-    returns-4
-    returns-5
-    returns-6)
+    (tie.spec (λ c. search needs) (λ c. search needs) (λ c. search needs) (λ c κs. search needs) (λ c. search needs)
+    put-policy-requires (λ c. search needs) (λ c. search needs) join-last-requires sub-result (λ c. search needs)
+    join-last-requires-2 sub-result-2 (λ c. search needs) (λ c. search needs) (λ c. search needs) returns returns-2
+    returns-3 returns-4 returns-5 returns-6)

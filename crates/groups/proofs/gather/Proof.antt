@@ -5,12 +5,6 @@ use Rattle.groups.proofs.GatheredLaws.{masks-front, masks-rest, gathere
 use Rattle.groups.proofs.gather.Statement.{statement}
 use Rattle.groups.proofs.gather.Tie as tie
 
-sub-rest : tie.Need-sub-rest
-sub-rest c = search needs
-
-sub-rest-2 : tie.Need-sub-rest-2
-sub-rest-2 c = search needs
-
 gather-fours-requires : tie.Need-gather-fours-requires
 gather-fours-requires c κs =
     let p = c .before .before .pre in
@@ -30,6 +24,8 @@ returns c =
     let m = f .before .before .before .pre .masks in
     gathered-both _ _ _ _ (omega (arith, m .ordered)) (omega arith) _ _ _ _ (f .gather-fours .ensures) (c .gather-rest .ensures)
 
+-- the other needs are found by search
 pub gather-spec : {M : Type 1} → statement M
 gather-spec =
-    tie.close (tie.spec sub-rest sub-rest-2 gather-fours-requires gather-rest-requires returns)
+    tie.close
+    (tie.spec (λ c. search needs) (λ c. search needs) gather-fours-requires gather-rest-requires returns)

@@ -36,31 +36,15 @@ shared-slice-read-add-mask c = omega (arith, here (c .before .before))
 add-mask-requires : tie.Need-add-mask-requires Inv-loop μ-loop
 add-mask-requires c κs = let t = c .before .before in let g = t .before .loop .inv in (g .room, record { set = mask-set (g .more) (t .loop-test .taken); within = t .before .before .before .pre .within })
 
-add-i : tie.Need-add-i Inv-loop μ-loop
-add-i c = search needs
-
-loop-less : tie.Need-loop-less Inv-loop μ-loop
-loop-less c = search needs
-
 loop-again : tie.Need-loop-again Inv-loop μ-loop
 loop-again c = let t = c .before .before .before in gathered-more (t .before .loop .inv) (t .loop-test .taken) _ (c .add-mask .ensures)
 
 returns : tie.Need-returns Inv-loop μ-loop
 returns c = gathered-all (c .before .loop .inv) (c .loop-test .left)
 
+-- the other needs are found by search
 pub gather-rest-spec : {M : Type 1} → statement M
 gather-rest-spec =
     tie.close
-    (tie.spec
-    Inv-loop
-    μ-loop
-    loop-holds
-    mul-add-mask
-    add-add-mask
-    mul-add-mask-2
-    shared-slice-read-add-mask
-    add-mask-requires
-    add-i
-    loop-less
-    loop-again
-    returns)
+    (tie.spec Inv-loop μ-loop loop-holds mul-add-mask add-add-mask mul-add-mask-2 shared-slice-read-add-mask
+    add-mask-requires (λ c. search needs) (λ c. search needs) loop-again returns)

@@ -7,21 +7,6 @@ use borrow.Author.Needs.{needs}
 use Rattle.rod.proofs.after_node.Statement.{statement}
 use Rattle.rod.proofs.after_node.Tie as tie
 
-mul-kind-of : tie.Need-mul-kind-of
-mul-kind-of c = search needs
-
-mul-kind-of-2 : tie.Need-mul-kind-of-2
-mul-kind-of-2 c = search needs
-
-shared-slice-read-kind-of : tie.Need-shared-slice-read-kind-of
-shared-slice-read-kind-of c = search needs
-
-kind-of-requires : tie.Need-kind-of-requires
-kind-of-requires c κs = search needs
-
-enum-known-kind : tie.Need-enum-known-kind
-enum-known-kind c = search needs
-
 policy-value-requires : tie.Need-policy-value-requires
 policy-value-requires c κs =
     let m = c .before .before .before in
@@ -32,27 +17,6 @@ with-value-requires : tie.Need-with-value-requires
 with-value-requires c κs =
     let s = c .before .before .before .before .before .before .before in
     values-small _ _ _ _ _ (s .pre .0) (s .pre .1)
-
-enum-told : tie.Need-enum-told
-enum-told c = search needs
-
-with-join-requires : tie.Need-with-join-requires
-with-join-requires c κs = search needs
-
-enum-told-2 : tie.Need-enum-told-2
-enum-told-2 c = search needs
-
-with-join-requires-2 : tie.Need-with-join-requires-2
-with-join-requires-2 c κs = search needs
-
-enum-told-3 : tie.Need-enum-told-3
-enum-told-3 c = search needs
-
-enum-told-4 : tie.Need-enum-told-4
-enum-told-4 c = search needs
-
-enum-told-5 : tie.Need-enum-told-5
-enum-told-5 c = search needs
 
 returns : tie.Need-returns
 returns c =
@@ -91,27 +55,11 @@ returns-6 c =
     let s = m .before .before .before in
     past-exclusion _ _ _ _ _ (s .pre .0) (s .pre .1) (sym (ap kindMeaning (c .enum-told5 .given .1)) ∙ m .kind-of .ensures)
 
+-- the other needs are found by search
 pub after-node-spec : {M : Type 1} → statement M
 after-node-spec =
     tie.close
-    (tie.spec
-    mul-kind-of
-    mul-kind-of-2
-    shared-slice-read-kind-of
-    kind-of-requires
-    enum-known-kind
-    policy-value-requires
-    with-value-requires
-    enum-told
-    with-join-requires
-    enum-told-2
-    with-join-requires-2
-    enum-told-3
-    enum-told-4
-    enum-told-5
-    returns
-    returns-2
-    returns-3
-    returns-4
-    returns-5
-    returns-6)
+    (tie.spec (λ c. search needs) (λ c. search needs) (λ c. search needs) (λ c κs. search needs) (λ c. search needs)
+    policy-value-requires with-value-requires (λ c. search needs) (λ c κs. search needs) (λ c. search needs)
+    (λ c κs. search needs) (λ c. search needs) (λ c. search needs) (λ c. search needs) returns returns-2 returns-3
+    returns-4 returns-5 returns-6)
