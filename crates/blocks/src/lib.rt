@@ -1,5 +1,5 @@
 // A block is the 64 sets from 64 * block on. A word of 64 bits tells one thing of each of them: bit j is for the set
-// 64 * block + j. So the six lowest signals have the same patterns in every block. The functions are for the crates above.
+// 64 * block + j. So the six lowest signals have the same patterns in every block. For the crates above.
 ghost use mathlib.Core.Bool.{not, _&&_, _||_};
 ghost use mathlib.Core.Path.{_≡_};
 ghost use Prim.Native.Nat.{_+_, _≤_, _<_};

@@ -1,5 +1,5 @@
-// The office's checks of a listing, and of two, over all signal sets without an excluded pair: in rising order, a group of 1,024
-// sets at a time (docs/DECISIONS.md, D36). A listing is examined once and not for each group.
+// The office's checks of a listing, and of two, over all signal sets without an excluded pair: in rising order, a group
+// of 1,024 sets at a time (docs/DECISIONS.md, D36). A listing is examined once and not for each group.
 ghost use mathlib.Core.Bool.{not, cond};
 ghost use mathlib.Core.Path.{_≡_};
 ghost use Prim.Native.Nat.{_≤_, _<_};
@@ -53,7 +53,7 @@ fn apart_word(barred: u64, also: u64, first: u64, second: u64) -> u64
     !barred & !also & (first ^ second)
 }
 
-// The lowest set of the group that is barred by neither, and on which the two differ. Both checks walk a group's blocks here.
+// The lowest set of the group that is barred by neither, and on which the two differ. Both checks walk a group here.
 fn lowest_apart(barred: &[u64], also: &[u64], first: &[u64], second: &[u64], group: u32) -> Found
     requires { ⌜ IsGroup group ⌝ }
     requires { ⌜ FourTables (now barred) (now also) (now first) (now second) ⌝ }
@@ -93,8 +93,8 @@ fn empty_gives(before: bool, values: &[u64], group: u32) -> bool
     }
 }
 
-// How many of the group's sets are not barred, up to the one of place `last`, which is looked at too. Without pairs none is
-// barred, and nothing has to be counted (docs/DECISIONS.md, D48).
+// How many of the group's sets are not barred, up to the one of place `last`, which is looked at too. Without pairs
+// none is barred, and nothing has to be counted (docs/DECISIONS.md, D48).
 fn permitted_up_to(barred: &[u64], pairs: usize, last: u32) -> u32
     requires { ⌜ last ≤ 1023 ⌝ }
     requires { ⌜ HasBlocks (now barred) ⌝ }
@@ -134,8 +134,8 @@ fn answer(empty: bool, other: Found, judged: u32) -> ChoiceAnswer
     }
 }
 
-// One pass. The empty set comes first and has no pair: so the pass has one of the two answers there, and the lowest set that
-// does not give the same is all that is left to find.
+// One pass. The empty set comes first and has no pair: so the pass has one of the two answers there, and the lowest set
+// that does not give the same is all that is left to find.
 fn sound_choice(words: &[u32]) -> ChoiceAnswer
     requires { ⌜ verdict (now words) ≡ result tt ⌝ }
     ensures { λ r. ⌜ choiceMeaning r ≡ chosen (now (words .entry)) ⌝ }
@@ -149,7 +149,7 @@ fn sound_choice(words: &[u32]) -> ChoiceAnswer
         let barred = group_barred(words, pairs, group);
         groups::reading(words, pairs, group, &mut values);
         empty = empty_gives(empty, &values, group);
-        // The other answer is given where the listing differs from a table of the empty set's; the same sets are barred for both.
+        // The other answer is given where the listing differs from a table of the empty set's; both bar the same sets.
         let same = [blocks::all_if(empty); groups::TABLE_WORDS];
         let other = lowest_apart(&barred, &barred, &values, &same, group);
         if let Found::At(set) = other {

@@ -22,6 +22,10 @@ IsGroup group = group ≤ 63
 abbrev pub IsTable : List ℕ → Type 0
 IsTable table = length table ≡ 16
 
+-- set j of block k of a group
+abbrev pub groupSet : ℕ → ℕ → ℕ → ℕ
+groupSet group k j = 64 * (16 * group + k) + j
+
 -- the words of a table tell the test of the 16 blocks of a group, from 16 * group on
 abbrev pub GroupOf : (ℕ → Bool) → ℕ → List ℕ → Type 0
 GroupOf test group table = (k : ℕ) → k < 16 → BlockOf test (16 * group + k) (getD table k 0)
@@ -89,7 +93,8 @@ pub record Added (mask group : ℕ) (table left : List ℕ) : Type 0 where
 -- the masks of the records from one index up to another are added to a table, each so
 pub record Gathered (ws : List ℕ) (from end group : ℕ) (table left : List ℕ) : Type 0 where
   pub room : IsTable left
-  pub told : (x : ℕ) → x < 1024 → tells left x ≡ (tells table x || exists (maskReaches 0 group x) (masksFrom ws from (end - from)))
+  pub told : (x : ℕ) → x < 1024
+      → tells left x ≡ (tells table x || exists (maskReaches 0 group x) (masksFrom ws from (end - from)))
 
 -- one of the four signals that tell the blocks of a group apart
 pub record BlockSignal (signal : ℕ) : Type 0 where
@@ -101,6 +106,6 @@ pub record Spread (signal : ℕ) (table left : List ℕ) : Type 0 where
   pub room : IsTable left
   pub told : (x : ℕ) → x < 1024 → tells left x ≡ (tells table x || tells table (without signal x))
 
--- where the table tells of each set whether it was some mask's, the one left tells whether a mask reaches it below signal 10
+-- where the table tells whether a set was some mask's, the one left tells whether a mask reaches it below signal 10
 abbrev pub AllSpread : List ℕ → List ℕ → Type 0
 AllSpread table left = (masks : List ℕ) (group : ℕ) → Reached 0 masks group table → Reached 10 masks group left

@@ -12,7 +12,7 @@ use Rattle.layout.specs.Records.{Join}
 use Rattle.layout.specs.Nodes.{ListedPolicy, nodes}
 use Rattle.layout.specs.Steps.{recordsFrom}
 use Rattle.rod.specs.Reading.{policyValue, joined, says}
-use Rattle.groups.specs.Groups.{IsGroup, GroupOf}
+use Rattle.groups.specs.Groups.{IsGroup, groupSet, GroupOf}
 use Rattle.rod.specs.Values.{maskAt, LinesTo, listedAt, NodeAt}
 
 -- the values are kept in sixteen tables, one after the other
@@ -46,9 +46,13 @@ PolicyPut p group height values left = Written (valueWord height) (PolicyWord p 
 abbrev pub Said : List ℕ → ℕ → Bool → Bool → ℕ → ℕ → List ℕ → List ℕ → Type 0
 Said ws at quiet turned group height values left = PolicyPut (listedAt ws at quiet turned) group height values left
 
--- bit j of a policy's word, by the words of its overlap and of the lines inside, and by two that are all sets or none, for turned and for quiet
+-- bit j of a policy's word, where its mask overlaps the set or not
+abbrev pub valueBit : Bool → ℕ → ℕ → ℕ → ℕ → Bool
+valueBit over found turn still j = cond over (not (Bool·beq (present found j) (present turn j))) (present still j)
+
+-- bit j of a policy's word: by its overlap, the lines inside, and two words, all sets or none, for turned and quiet
 abbrev pub policyBit : ℕ → ℕ → ℕ → ℕ → ℕ → Bool
-policyBit over found turn still j = cond (present over j) (not (Bool·beq (present found j) (present turn j))) (present still j)
+policyBit over found turn still j = valueBit (present over j) found turn still j
 
 -- a policy's value is put at this height, from one word of its overlap for all blocks
 abbrev pub EvenPut : ℕ → List ℕ → ℕ → ℕ → ℕ → List ℕ → List ℕ → Type 0
@@ -58,16 +62,19 @@ EvenPut over found turn still height values left =
 -- word k tells what a policy with this mask says of block k of the group
 abbrev pub BlockWord : ℕ → ℕ → List ℕ → ℕ → ℕ → ℕ → ℕ → Type 0
 BlockWord mask group found turn still k word =
-    WordOf (λ j. cond (overlap mask (64 * (16 * group + k) + j)) (not (Bool·beq (present (getD found k 0) j) (present turn j))) (present still j)) word
+    WordOf (λ j. valueBit (overlap mask (groupSet group k j)) (getD found k 0) turn still j) word
 
 -- such a policy's value is put at this height
 abbrev pub BlocksPut : ℕ → ℕ → List ℕ → ℕ → ℕ → ℕ → List ℕ → List ℕ → Type 0
-BlocksPut mask group found turn still height values left = Written (valueWord height) (BlockWord mask group found turn still) 16 values left
+BlocksPut mask group found turn still height values left =
+    Written (valueWord height) (BlockWord mask group found turn still) 16 values left
 
 -- word k joins those of the value at this height and of the next
 abbrev pub JoinedWord : Join → ℕ → List ℕ → ℕ → ℕ → Type 0
 JoinedWord join height values k word =
-    WordOf (λ j. joined join (present (getD values (valueWord height k) 0) j) (present (getD values (valueWord (height + 1) k) 0) j)) word
+    let first = getD values (valueWord height k) 0 in
+    let second = getD values (valueWord (height + 1) k) 0 in
+    WordOf (λ j. joined join (present first j) (present second j)) word
 
 -- the value at this height and the next are joined
 abbrev pub JoinPut : Join → ℕ → List ℕ → List ℕ → Type 0
@@ -97,8 +104,9 @@ pub record GroupUnderway (ws : List ℕ) (group at : ℕ) (values : List ℕ) (h
   pub few : node .above .values ≤ node .above .policies
   pub atMost : node .above .policies ≤ 16
   pub same : (k : ℕ) → k < 16 → (j : ℕ) → j < 64
-      → getD (run joined (policyValue (64 * (16 * group + k) + j)) (nodes (recordsFrom ws at)) (column j (heldWords values k height))) 0 false
-      ≡ says ws (64 * (16 * group + k) + j)
+      → let set = groupSet group k j in
+      let stack = column j (heldWords values k height) in
+      getD (run joined (policyValue set) (nodes (recordsFrom ws at)) stack) 0 false ≡ says ws set
 
 -- the first table tells of each set of the group what the listing says
 pub record GroupRead (ws : List ℕ) (group : ℕ) (values : List ℕ) : Type 0 where

@@ -1,5 +1,5 @@
-// What a sound listing says of 1,024 sets at once. A group is 16 blocks, the sets from 1024 * group on, and a table has a word
-// for each block. The functions are for the crates above, and allocate nothing.
+// What a sound listing says of 1,024 sets at once. A group is 16 blocks, the sets from 1024 * group on, and a table has
+// a word for each block. The functions are for the crates above, and allocate nothing.
 ghost use mathlib.Core.Bool.{_||_};
 ghost use mathlib.Core.Path.{_≡_};
 ghost use Prim.Native.Nat.{_-_, _/_, _%_, _<_};
@@ -83,7 +83,7 @@ const FOURTH_MASK: usize = 3 * layout::RECORD_WORDS + layout::MASK;
 // How many words the four have.
 const FOUR_RECORDS: usize = TURN_RECORDS * layout::RECORD_WORDS;
 
-// The masks of the records from index `from` up to `end` are put into the table, four at a turn (docs/DECISIONS.md, D37).
+// The masks of the records from `from` up to `end` are put into the table, four at a turn (docs/DECISIONS.md, D37).
 fn gather_fours(words: &[u32], from: usize, end: usize, group: u32, table: &mut Table)
     requires { ⌜ CanGather (now words) from end group (now table) ⌝ }
     requires { ⌜ (end - from) % 4 ≡ 0 ⌝ }
@@ -180,8 +180,8 @@ fn lines_inside(words: &[u32], from: usize, end: usize, group: u32) -> Table
     table
 }
 
-// What a policy says, from the sets that share a signal with its mask and those inside which a line lies. `turn` is every set
-// if it is turned, `still` if it is quiet.
+// What a policy says, from the sets that share a signal with its mask and those inside which a line lies. `turn` is
+// every set if it is turned, `still` if it is quiet.
 fn policy_word(shared: u64, found: u64, turn: u64, still: u64) -> u64
     ensures { λ r. ⌜ WordOf (policyBit shared found turn still) r ⌝ }
 {
@@ -232,7 +232,7 @@ fn put_blocks(
     }
 }
 
-// Values are kept as tables. What the policy at index `at` says, whose lines end before index `end`, is put at this height.
+// Values are tables. What the policy at index `at` says, whose lines end before index `end`, is put at this height.
 fn put_policy(
     words: &[u32],
     at: usize,

@@ -17,7 +17,7 @@ use Rattle.layout.proofs.Runs.{leading-more, leading-end}
 use Rattle.rod.specs.Reading.{someLine, policyValue}
 use Rattle.rod.specs.Values.{maskAt, AllSets, LinesTo}
 
--- at index i of a run of lines that ends before index `end`: some line from `from` on lies inside the set where some line from here on does
+-- at index i of a run of lines up to `end`: some line from `from` on lies inside the set where one from here on does
 pub record Walk (ws : List ℕ) (from end set i : ℕ) : Type 0 where
   pub left : LinesTo ws i end
   pub same : someLine (leadingLines (recordsFrom ws i)) set ≡ someLine (leadingLines (recordsFrom ws from)) set

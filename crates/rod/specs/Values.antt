@@ -24,7 +24,8 @@ ValueAdded value before after = (s : List Bool) → before ≡ bitsOf s → afte
 
 -- the last two values joined into one
 abbrev pub LastJoined : Join → (before after : ℕ) → Type 0
-LastJoined j before after = (a b : Bool) (s : List Bool) → before ≡ bitsOf (b ∷ a ∷ s) → after ≡ bitsOf (joined j a b ∷ s)
+LastJoined j before after =
+    (a b : Bool) (s : List Bool) → before ≡ bitsOf (b ∷ a ∷ s) → after ≡ bitsOf (joined j a b ∷ s)
 
 -- a join, from the code's flag
 abbrev pub joinMeaning : Bool → Join
@@ -46,7 +47,9 @@ pub record LinesTo (ws : List ℕ) (from end : ℕ) : Type 0 where
 
 -- the policy at an index, with its flags and the lines after it
 abbrev pub listedAt : List ℕ → ℕ → Bool → Bool → ListedPolicy
-listedAt ws at quiet turned = record { quiet = quiet; turned = turned; mask = maskAt ws at; lines = leadingLines (recordsFrom ws (at + 1)) }
+listedAt ws at quiet turned =
+    let lines = leadingLines (recordsFrom ws (at + 1)) in
+    record { quiet = quiet; turned = turned; mask = maskAt ws at; lines = lines }
 
 -- the index after a node and its lines
 unfoldable pub nodeEnd : List ℕ → ℕ → ℕ

@@ -1,5 +1,5 @@
-// The rod: what a listing says of a signal set, or of each set of a traverse. It knows the listing part and nothing of books.
-// `decide` and `traverse` are for every caller; `reading` and `next_index` are for the crates above.
+// The rod: what a listing says of a signal set, or of each set of a traverse. It knows the listing part and nothing of
+// books. `decide` and `traverse` are for every caller; `reading` and `next_index` are for the crates above.
 ghost use mathlib.Core.Path.{_≡_};
 ghost use Prim.Native.Nat.{_+_, _/_, _≤_, _<_};
 ghost use lib.ListN.{length};

@@ -1,4 +1,4 @@
--- `checks::sound_choice`: no set of the groups before this one gives the other answer, and those without a pair are counted.
+-- `checks::sound_choice`: no set of the groups before gives the other answer, and those without a pair are counted.
 use Prim.Native.Nat.{ℕ, _+_, _-_, _*_, _%_, _≤_, _<_}
 use mathlib.Core.Bool.{true, not}
 use mathlib.Core.List.{List}

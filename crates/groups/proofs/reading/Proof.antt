@@ -1,4 +1,4 @@
--- `groups::reading`: the nodes to come say of each set of the group what the whole listing says; each turn takes one node and its lines.
+-- `groups::reading`: the nodes to come say of each set what the whole listing says; a turn takes a node and its lines.
 use Prim.Native.Nat.{_-_, _/_}
 use native.Mathlib.Omega.{arith}
 use lib.ListN.{length}
