@@ -20,7 +20,7 @@ use Rattle.layout.proofs.Places.{from-nil}
 use Rattle.rod.specs.Reading.{policyValue, joined, says}
 use Rattle.rod.specs.Values.{listedAt, nodeEnd, NodeTo, NodeAt}
 use Rattle.rod.proofs.Steps.{step, node-after, policy-lines, taken-here, first-node}
-use Rattle.groups.specs.Groups.{GroupOf, SoundWith}
+use Rattle.groups.specs.Groups.{groupSet, GroupOf, SoundWith}
 use Rattle.groups.specs.Values.{valueWord, ValueRoom, TwoValues, PolicyWord, PolicyPut, JoinedWord, JoinPut, PolicyHere, heldWords, column, GroupUnderway}
 use Rattle.groups.proofs.Pairs.{pair-kind}
 
@@ -68,7 +68,7 @@ module _ (ws : List ℕ) (group at end : ℕ) (values : List ℕ) (height : ℕ)
 
   -- the values of a set of the group
   abbrev after : List ListedNode → ℕ → ℕ → List Bool → Bool
-  after ns k j stack = getD (run joined (policyValue (64 * (16 * group + k) + j)) ns stack) 0 false
+  after ns k j stack = getD (run joined (policyValue (groupSet group k j)) ns stack) 0 false
 
   -- a policy adds its words
   module _ (quiet turned : Bool) (e : policy quiet turned ≡ kindOf (getD ws (at * 4) 0)) where
@@ -95,7 +95,7 @@ module _ (ws : List ℕ) (group at end : ℕ) (values : List ℕ) (height : ℕ)
           same = λ k b j h.
               ap (λ (held : List ℕ). after (nodes (recordsFrom ws (nodeEnd ws at))) k j (column j held)) (held-more (PolicyWord (listedAt ws at quiet turned) group) height values left s k b)
               ∙ ap (λ (x : Bool). after (nodes (recordsFrom ws (nodeEnd ws at))) k j (x ∷ column j (heldWords values k height))) (s .told k b j h)
-              ∙ taken-here ws at (n .within) (u .node) (64 * (16 * group + k) + j) (column j (heldWords values k height)) (policy quiet turned) e
+              ∙ taken-here ws at (n .within) (u .node) (groupSet group k j) (column j (heldWords values k height)) (policy quiet turned) e
               ∙ u .same k b j h;
         })
 
@@ -111,7 +111,7 @@ module _ (ws : List ℕ) (group at end : ℕ) (values : List ℕ) (height : ℕ)
         level = u .level;
         few = u .few;
         atMost = u .atMost;
-        same = λ k b j h. taken-here ws at (n .within) (u .node) (64 * (16 * group + k) + j) (column j (heldWords values k height)) exclusion e ∙ u .same k b j h;
+        same = λ k b j h. taken-here ws at (n .within) (u .node) (groupSet group k j) (column j (heldWords values k height)) exclusion e ∙ u .same k b j h;
       })
 
   -- a join makes one value of two
@@ -136,7 +136,7 @@ module _ (ws : List ℕ) (group at end : ℕ) (values : List ℕ) (height : ℕ)
               ap (λ (held : List ℕ). after (nodes (recordsFrom ws (nodeEnd ws at))) k j (column j held)) (ap (heldWords left k) one-less ∙ held-more (JoinedWord o (height - 2) values) (height - 2) values left s k b)
               ∙ ap (λ (x : Bool). after (nodes (recordsFrom ws (nodeEnd ws at))) k j (x ∷ column j (heldWords values k (height - 2)))) (s .told k b j h)
               ∙ ap (λ (held : List ℕ). after (nodeThen (Kind.join o) (getD ws (at * 4 + 1) 0) (leadingLines (recordsFrom ws (at + 1))) (nodes (recordsFrom ws (nodeEnd ws at)))) k j (column j held)) (sym (held-two values k (height - 2)) ∙ ap (heldWords values k) two-less)
-              ∙ taken-here ws at (n .within) (u .node) (64 * (16 * group + k) + j) (column j (heldWords values k height)) (Kind.join o) e
+              ∙ taken-here ws at (n .within) (u .node) (groupSet group k j) (column j (heldWords values k height)) (Kind.join o) e
               ∙ u .same k b j h;
         })
       where
