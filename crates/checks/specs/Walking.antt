@@ -24,16 +24,16 @@ abbrev pub chosenBy : Bool → Option ℕ → ℕ → Answer Chosen
 chosenBy true other j = result (record { choice = choiceOf (some 0) other; judged = j })
 chosenBy false other j = result (record { choice = choiceOf other (some 0); judged = j })
 
--- a table has a word for each of the 16 blocks of a group
+-- the first 16 words tell of the blocks of a group
 abbrev pub HasBlocks : List ℕ → Type 0
 HasBlocks table = 16 ≤ length table
 
--- so have the four that the lowest set of a group is found by
-pub record FourTables (barred also one two : List ℕ) : Type 0 where
+-- so do those of the four tables by which the lowest set of a group is found
+pub record FourTables (barred also first second : List ℕ) : Type 0 where
   pub barredThere : HasBlocks barred
   pub alsoThere : HasBlocks also
-  pub oneThere : HasBlocks one
-  pub twoThere : HasBlocks two
+  pub firstThere : HasBlocks first
+  pub secondThere : HasBlocks second
 
 -- of any test of the block's sets that a word tells, this set is the lowest that passes it
 abbrev pub LowestIn : ℕ → ℕ → ℕ → Type 0
@@ -41,19 +41,19 @@ LowestIn block word set = (test : ℕ → Bool) → BlockOf test block word → 
 
 -- set j of a block is barred by neither word, and the other two differ on it
 abbrev pub apartBit : ℕ → ℕ → ℕ → ℕ → ℕ → Bool
-apartBit barred also one two j =
-    not (present barred j) && not (present also j) && not (Bool·beq (present one j) (present two j))
+apartBit barred also first second j =
+    not (present barred j) && not (present also j) && not (Bool·beq (present first j) (present second j))
 
 -- a test of the group's sets, told by four tables: neither of two bars the set, and the other two differ on it
-abbrev pub GroupApart : (ℕ → Bool) → ℕ → (barred also one two : List ℕ) → Type 0
-GroupApart test group barred also one two =
+abbrev pub GroupApart : (ℕ → Bool) → ℕ → (barred also first second : List ℕ) → Type 0
+GroupApart test group barred also first second =
     (k : ℕ) → k < 16 → (j : ℕ) → j < 64
-    → apartBit (getD barred k 0) (getD also k 0) (getD one k 0) (getD two k 0) j ≡ test (groupSet group k j)
+    → apartBit (getD barred k 0) (getD also k 0) (getD first k 0) (getD second k 0) j ≡ test (groupSet group k j)
 
 -- what was found is the lowest set of the group that passes such a test
-abbrev pub LowestInGroup : ℕ → (barred also one two : List ℕ) → Found → Type 0
-LowestInGroup group barred also one two found =
-    (test : ℕ → Bool) → GroupApart test group barred also one two
+abbrev pub LowestInGroup : ℕ → (barred also first second : List ℕ) → Found → Type 0
+LowestInGroup group barred also first second found =
+    (test : ℕ → Bool) → GroupApart test group barred also first second
     → foundMeaning found ≡ lowestFrom 1024 (1024 * group) test
 
 -- where a table tells which sets of a group fail a test, and without pairs none fails: so many of them pass it, up to

@@ -27,14 +27,14 @@ use Rattle.groups.specs.Groups.{groupSet, GroupOf}
 use Rattle.groups.specs.Values.{valueWord, valueBit, policyBit, BlockWord, PolicyWord, JoinedWord}
 
 -- a policy's word, by the code's `^`, `&`, `|` and `!`
-pub policy-bits : (over found turn still : ℕ) → over < 2 ^ 64
-    → WordOf (policyBit over found turn still) (bitOr (bitAnd (bitXor found turn) over) (bitAnd still (2 ^ 64 - 1 - over)))
-policy-bits over found turn still small j h =
-    present-or (bitAnd (bitXor found turn) over) (bitAnd still (2 ^ 64 - 1 - over)) j
+pub policy-bits : (shared found turn still : ℕ) → shared < 2 ^ 64
+    → WordOf (policyBit shared found turn still) (bitOr (bitAnd (bitXor found turn) shared) (bitAnd still (2 ^ 64 - 1 - shared)))
+policy-bits shared found turn still small j h =
+    present-or (bitAnd (bitXor found turn) shared) (bitAnd still (2 ^ 64 - 1 - shared)) j
     ∙ ap₂ (λ (s t : Bool). s || t)
-    (present-and (bitXor found turn) over j ∙ ap (λ (t : Bool). t && present over j) (present-xor found turn j))
-    (present-and still (2 ^ 64 - 1 - over) j ∙ ap (λ (t : Bool). present still j && t) (present-not 64 over j small h))
-    ∙ go (present over j) (not (Bool·beq (present found j) (present turn j))) (present still j)
+    (present-and (bitXor found turn) shared j ∙ ap (λ (t : Bool). t && present shared j) (present-xor found turn j))
+    (present-and still (2 ^ 64 - 1 - shared) j ∙ ap (λ (t : Bool). present still j && t) (present-not 64 shared j small h))
+    ∙ go (present shared j) (not (Bool·beq (present found j) (present turn j))) (present still j)
   where
     go : (o v s : Bool) → ((v && o) || (s && not o)) ≡ cond o v s
     go true true s = refl
@@ -67,9 +67,9 @@ joined-here o values height n left w word t j h =
     next = omega arith
 
 -- by the word of an overlap
-pub block-told : (mask group : ℕ) (found : List ℕ) (turn still k over word : ℕ) → BlockOf (overlap mask) (16 * group + k) over
-    → WordOf (policyBit over (getD found k 0) turn still) word → BlockWord mask group found turn still k word
-block-told mask group found turn still k over word o w j h =
+pub block-told : (mask group : ℕ) (found : List ℕ) (turn still k shared word : ℕ) → BlockOf (overlap mask) (16 * group + k) shared
+    → WordOf (policyBit shared (getD found k 0) turn still) word → BlockWord mask group found turn still k word
+block-told mask group found turn still k shared word o w j h =
     w j h ∙ ap (λ (s : Bool). valueBit s (getD found k 0) turn still j) (o j h)
 
 -- ---- what a policy says
@@ -95,9 +95,9 @@ module _ (p : ListedPolicy) (group : ℕ) (found : List ℕ) (turn still : ℕ) 
       (ap (λ (v : Bool). cond (overlap (p .mask) (groupSet group k j)) v (p .quiet)) (turned-bit (someLine (p .lines) (groupSet group k j)) (p .turned)))
 
   -- by one word of its overlap
-  pub even-told : (over : ℕ) → BlockOf (overlap (p .mask)) (16 * group) over → EvenOverlap (p .mask) group
-      → (k : ℕ) → k < 16 → (word : ℕ) → WordOf (policyBit over (getD found k 0) turn still) word → PolicyWord p group k word
-  even-told over o e k b word w =
+  pub even-told : (shared : ℕ) → BlockOf (overlap (p .mask)) (16 * group) shared → EvenOverlap (p .mask) group
+      → (k : ℕ) → k < 16 → (word : ℕ) → WordOf (policyBit shared (getD found k 0) turn still) word → PolicyWord p group k word
+  even-told shared o e k b word w =
       blocks-told k b word
       (λ j h. w j h ∙ ap (λ (s : Bool). valueBit s (getD found k 0) turn still j) (o j h ∙ sym (e k b j h)))
 

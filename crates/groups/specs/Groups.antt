@@ -55,7 +55,7 @@ pairCount ws = length (excluded (records ws))
 abbrev pub SoundWith : List ℕ → ℕ → Type 0
 SoundWith ws pairs = (verdict ws ≡ result tt) × (pairs ≡ pairCount ws)
 
--- it is read for a group
+-- the words are such a listing, and it is read for this group
 pub record SoundGroup (ws : List ℕ) (pairs group : ℕ) : Type 0 where
   pub sound : SoundWith ws pairs
   pub within : IsGroup group

@@ -48,16 +48,16 @@ Said ws at quiet turned group height values left = PolicyPut (listedAt ws at qui
 
 -- bit j of a policy's word, where its mask overlaps the set or not
 abbrev pub valueBit : Bool → ℕ → ℕ → ℕ → ℕ → Bool
-valueBit over found turn still j = cond over (not (Bool·beq (present found j) (present turn j))) (present still j)
+valueBit shared found turn still j = cond shared (not (Bool·beq (present found j) (present turn j))) (present still j)
 
 -- bit j of a policy's word: by its overlap, the lines inside, and two words, all sets or none, for turned and quiet
 abbrev pub policyBit : ℕ → ℕ → ℕ → ℕ → ℕ → Bool
-policyBit over found turn still j = valueBit (present over j) found turn still j
+policyBit shared found turn still j = valueBit (present shared j) found turn still j
 
 -- a policy's value is put at this height, from one word of its overlap for all blocks
 abbrev pub EvenPut : ℕ → List ℕ → ℕ → ℕ → ℕ → List ℕ → List ℕ → Type 0
-EvenPut over found turn still height values left =
-    Written (valueWord height) (λ k word. WordOf (policyBit over (getD found k 0) turn still) word) 16 values left
+EvenPut shared found turn still height values left =
+    Written (valueWord height) (λ k word. WordOf (policyBit shared (getD found k 0) turn still) word) 16 values left
 
 -- word k tells what a policy with this mask says of block k of the group
 abbrev pub BlockWord : ℕ → ℕ → List ℕ → ℕ → ℕ → ℕ → ℕ → Type 0

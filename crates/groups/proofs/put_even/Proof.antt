@@ -11,11 +11,11 @@ use Rattle.groups.proofs.put_even.Statement.{statement}
 use Rattle.groups.proofs.put_even.Tie as tie
 
 abbrev Inv-loop : tie.InvT-loop
-Inv-loop values₀ height overlap turn still found k₀ values k =
-    (k ≤ 16) × Written (valueWord height) (λ n word. WordOf (policyBit overlap (getD found n 0) turn still) word) k values₀ values
+Inv-loop values₀ height shared turn still found k₀ values k =
+    (k ≤ 16) × Written (valueWord height) (λ n word. WordOf (policyBit shared (getD found n 0) turn still) word) k values₀ values
 
 abbrev μ-loop : tie.MeasureT-loop
-μ-loop values₀ height overlap turn still found k₀ values k = 16 - k
+μ-loop values₀ height shared turn still found k₀ values k = 16 - k
 
 loop-holds : tie.Need-loop-holds Inv-loop μ-loop
 loop-holds c = (omega arith, written-none _ _ _)
