@@ -1,11 +1,20 @@
 // A block is the 64 sets from 64 * block on. A word of 64 bits tells one thing of each of them: bit j is for the set
-// 64 * block + j. So the six lowest signals have the same patterns in every block. The functions are for the crates above.
+// 64 * block + j. So the six lowest signals have the same patterns in every block. For the crates above.
 ghost use mathlib.Core.Bool.{not, _&&_, _||_};
 ghost use mathlib.Core.Path.{_≡_};
-ghost use Prim.Native.Nat.{_+_, _%_, _≤_, _<_};
+ghost use Prim.Native.Nat.{_+_, _≤_, _<_};
 ghost use Rattle.arith.specs.Lists.{countBelow};
 ghost use Rattle.signals.specs.Sets.{present, overlap};
-ghost use Rattle.blocks.specs.Blocks.{WordOf, BlockOf, without};
+ghost use Rattle.blocks.specs.Blocks.{WordOf, BlockOf, LowTold, without};
+
+// How many sets a block has.
+pub const BLOCK_SETS: u32 = 64;
+
+// The place of a block's last set.
+pub const LAST_PLACE: u32 = BLOCK_SETS - 1;
+
+// How many signals tell a block's sets apart: the lowest.
+const BLOCK_SIGNALS: u32 = 6;
 
 // Every set of a block.
 const ALL: u64 = 0xffffffffffffffff;
@@ -60,7 +69,7 @@ pub fn low_overlap(low: u32) -> u64
 {
     let mut word: u64 = 0;
     let mut signal: u32 = 0;
-    while signal < 6 {
+    while signal < BLOCK_SIGNALS {
         word = sharing(low, signal) | word;
         signal += 1;
     }
@@ -69,10 +78,15 @@ pub fn low_overlap(low: u32) -> u64
 
 // The sets of the block that share a signal with the mask, from those that share one of the six lowest.
 pub fn block_overlap(mask: u32, low: u64, block: u32) -> u64
-    requires { ⌜ (mask ≤ 65535) × (block ≤ 1023) × WordOf (overlap (mask % 64)) low ⌝ }
+    requires { ⌜ LowTold mask low ⌝ }
+    requires { ⌜ block ≤ 1023 ⌝ }
     ensures { λ r. ⌜ BlockOf (overlap mask) block r ⌝ }
 {
-    if mask / 64 & block == 0 { low } else { ALL }
+    if mask / BLOCK_SETS & block == 0 {
+        low
+    } else {
+        ALL
+    }
 }
 
 // How many of the word's bits are zero, up to bit `last`, which is looked at too.
@@ -80,5 +94,5 @@ pub fn zeros_up_to(word: u64, last: u32) -> u32
     requires { ⌜ last < 64 ⌝ }
     ensures { λ r. ⌜ r ≡ countBelow (last + 1) (λ j. not (present word j)) ⌝ }
 {
-    u64::count_ones(!word << (63 - last))
+    u64::count_ones(!word << (LAST_PLACE - last))
 }

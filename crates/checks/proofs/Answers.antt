@@ -148,7 +148,7 @@ module _ (one two : List ℕ) where
 -- ---- what the comparison of two sound listings tells
 
 module _ (one two : List ℕ) (v : verdict one ≡ result tt) (w : verdict two ≡ result tt) where
-  -- it says "alike" and they differ on no set, or it names the lowest set on which they differ, and which says yes there
+  -- it says "alike" and they differ on no set, or it names the lowest set where they differ, and which says yes there
   pub comparison-tells : ((comparison one two ≡ alike) × LowestIs (differAt one two) none)
       ⊎ ((set : ℕ) × (comparison one two ≡ differ set (cond (says one set) first second)) × LowestIs (differAt one two) (some set))
   unfolding comparison examined comparisonOf

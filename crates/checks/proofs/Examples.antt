@@ -1,4 +1,4 @@
--- Computed examples of the office's checks. Where all sets are walked, a law counts them, and what it needs of a set is computed.
+-- Computed examples of the checks. Where all sets are walked, a law counts them, by what is computed of a set.
 use Prim.Native.Nat.{ℕ, _+_, _/_, _%_}
 use mathlib.Core.Bool.{Bool, true, false, not, cond, _&&_, _||_}
 use mathlib.Core.List.{List, [], _∷_}

@@ -50,7 +50,7 @@ module _ (ws : List ℕ) where
   abbrev lowest : Bool → ℕ → Option ℕ
   lowest b n = lowestFrom n 0 (gives ws b)
 
-  -- what a pass over the first n sets has if it went on to the last of them, and what it has if it ended as soon as it had both
+  -- what a pass over the first n sets has if it went on to the last of them, and if it ended as soon as it had both
   abbrev after : ℕ → Pass
   after n = record { yes = lowest true n; no = lowest false n; judged = countBelow n (permitted ws) }
 

@@ -1,4 +1,4 @@
--- The choice check and the comparison (document 01, "The office's checks"; change request 1: the sets walked, 5: how many are judged).
+-- The choice check and the comparison (document 01, "The office's checks"; change request 1: sets walked; 5: judged).
 use Prim.Native.Nat.{ℕ, zero, suc, _+_, max}
 use mathlib.Core.Bool.{Bool, true, false, not, cond, Bool·beq, _&&_}
 use mathlib.Core.List.{List}

@@ -1,4 +1,4 @@
--- No meaning: an example that computes with the definitions of this crate and those below says `unfolding checksCompute`.
+-- No meaning: an example that computes with the definitions here and below says `unfolding checksCompute`.
 use Rattle.rod.specs.Computing.{rodComputes}
 use Rattle.arith.specs.Lists.{countBelow}
 use Rattle.checks.specs.Checks.{permitted, lowestFrom, lowestSet, choiceOf, choice, judgedEnd, judgedSets, chosen, differAt, comparisonOf, examined, comparison}

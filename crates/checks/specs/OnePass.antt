@@ -1,6 +1,6 @@
--- Claimed: one pass over the signal sets, one by one in rising order, which leaves out those with an excluded pair, judges every set
--- left once, and ends as soon as it has a yes and a no, finds what the choice check finds, and judges as many sets. Proved in
--- proofs/OnePass.antt.
+-- Claimed: one pass over the signal sets, one by one in rising order, which leaves out those with an excluded pair,
+-- judges every set left once, and ends as soon as it has a yes and a no, finds what the choice check finds, and judges
+-- as many sets. Proved in proofs/OnePass.antt.
 use Prim.Native.Nat.{ℕ, zero, suc, _+_}
 use mathlib.Core.Bool.{Bool, true, false, not, cond}
 use mathlib.Core.List.{List}
@@ -11,7 +11,7 @@ use Rattle.layout.specs.Judgement.{verdict}
 use Rattle.rod.specs.Reading.{says}
 use Rattle.checks.specs.Checks.{permitted, choiceOf, chosen}
 
--- what the pass has so far: the lowest set with yes and the lowest with no, if there are such, and how many sets were judged
+-- the pass so far: the lowest set with yes and the lowest with no, if there are such, and how many sets were judged
 pub record Pass : Type 0 where
   pub yes : Option ℕ
   pub no : Option ℕ
@@ -36,7 +36,9 @@ lowestWith none set here = cond here (some set) none
 unfoldable pub takeSet : List ℕ → ℕ → Pass → Pass
 takeSet ws set p =
     let answer = says ws set in
-    cond (permitted ws set) (record { yes = lowestWith (p .yes) set answer; no = lowestWith (p .no) set (not answer); judged = p .judged + 1 }) p
+    let yes = lowestWith (p .yes) set answer in
+    let no = lowestWith (p .no) set (not answer) in
+    cond (permitted ws set) (record { yes = yes; no = no; judged = p .judged + 1 }) p
 
 -- the `count` sets from `from` on, until it has both
 unfoldable pub passFrom : List ℕ → ℕ → ℕ → Pass → Pass

@@ -1,5 +1,5 @@
-// The office's checks of a listing, and of two, over all signal sets without an excluded pair: in rising order, a group of 1,024
-// sets at a time (docs/DECISIONS.md, D36). A listing is examined once and not for each group.
+// The office's checks of a listing, and of two, over all signal sets without an excluded pair: in rising order, a group
+// of 1,024 sets at a time (docs/DECISIONS.md, D36). A listing is examined once and not for each group.
 ghost use mathlib.Core.Bool.{not, cond};
 ghost use mathlib.Core.Path.{_≡_};
 ghost use Prim.Native.Nat.{_≤_, _<_};
@@ -9,13 +9,13 @@ ghost use Rattle.answers.specs.Answers.{result};
 ghost use Rattle.signals.specs.Sets.{present};
 ghost use Rattle.blocks.specs.Blocks.{WordOf};
 ghost use Rattle.layout.specs.Judgement.{verdict};
-ghost use Rattle.groups.specs.Groups.{GroupOf, SoundWith};
+ghost use Rattle.groups.specs.Groups.{IsGroup, GroupOf, SoundGroup};
 ghost use Rattle.checks.specs.Checks.{permitted, lowestSet, chosen, differAt, comparison};
 ghost use Rattle.checks.specs.Meaning.{choiceMeaning, comparisonMeaning};
-ghost use Rattle.checks.specs.Walking.{foundMeaning, chosenBy, HasBlocks, LowestIn, apartBit, LowestApart, PermittedUpTo};
+ghost use Rattle.checks.specs.Walking.{foundMeaning, chosenBy, HasBlocks, FourTables, LowestIn, apartBit, LowestInGroup, PermittedUpTo};
 
 // How many groups of 1,024 signal sets there are.
-const GROUPS: u32 = 64;
+const GROUPS: u32 = groups::HIGHEST_GROUP + 1;
 
 // The lowest set, if there is one.
 enum Found {
@@ -25,7 +25,7 @@ enum Found {
 
 // The sets of the group with an excluded pair of the sound listing, which begins with so many.
 fn group_barred(words: &[u32], pairs: usize, group: u32) -> groups::Table
-    requires { ⌜ SoundWith (now words) pairs × (group ≤ 63) ⌝ }
+    requires { ⌜ SoundGroup (now words) pairs group ⌝ }
     ensures { λ r. ⌜ GroupOf (λ set. not (permitted (now (words .entry)) set)) group r ⌝ }
 {
     let mut table = [0u64; groups::TABLE_WORDS];
@@ -39,10 +39,11 @@ fn group_barred(words: &[u32], pairs: usize, group: u32) -> groups::Table
 
 // The set of a word's lowest bit.
 fn lowest_in(block: u32, word: u64) -> u16
-    requires { ⌜ (block ≤ 1023) × (0 < word) ⌝ }
+    requires { ⌜ block ≤ 1023 ⌝ }
+    requires { ⌜ 0 < word ⌝ }
     ensures { λ r. ⌜ LowestIn block word r ⌝ }
 {
-    (64 * block + u64::trailing_zeros(word)) as u16
+    (blocks::BLOCK_SETS * block + u64::trailing_zeros(word)) as u16
 }
 
 // The sets that are barred by neither, and on which the two differ.
@@ -52,18 +53,18 @@ fn apart_word(barred: u64, also: u64, first: u64, second: u64) -> u64
     !barred & !also & (first ^ second)
 }
 
-// The lowest set of the group that is barred by neither, and on which the two differ. Both checks walk a group's blocks here.
+// The lowest set of the group that is barred by neither, and on which the two differ. Both checks walk a group here.
 fn lowest_apart(barred: &[u64], also: &[u64], first: &[u64], second: &[u64], group: u32) -> Found
-    requires { ⌜ (group ≤ 63) × HasBlocks (now barred) × HasBlocks (now also) ⌝ }
-    requires { ⌜ HasBlocks (now first) × HasBlocks (now second) ⌝ }
-    ensures { λ r. ⌜ LowestApart group (now (barred .entry)) (now (also .entry))
+    requires { ⌜ IsGroup group ⌝ }
+    requires { ⌜ FourTables (now barred) (now also) (now first) (now second) ⌝ }
+    ensures { λ r. ⌜ LowestInGroup group (now (barred .entry)) (now (also .entry))
         (now (first .entry)) (now (second .entry)) r ⌝ }
 {
     let mut k: usize = 0;
     while k < groups::TABLE_WORDS {
         let word = apart_word(barred[k], also[k], first[k], second[k]);
         if word != 0 {
-            return Found::At(lowest_in(16 * group + k as u32, word));
+            return Found::At(lowest_in(groups::GROUP_BLOCKS * group + k as u32, word));
         }
         k += 1;
     }
@@ -92,10 +93,11 @@ fn empty_gives(before: bool, values: &[u64], group: u32) -> bool
     }
 }
 
-// How many of the group's sets are not barred, up to the one of place `last`, which is looked at too. Without pairs none is
-// barred, and nothing has to be counted (docs/DECISIONS.md, D48).
+// How many of the group's sets are not barred, up to the one of place `last`, which is looked at too. Without pairs
+// none is barred, and nothing has to be counted (docs/DECISIONS.md, D48).
 fn permitted_up_to(barred: &[u64], pairs: usize, last: u32) -> u32
-    requires { ⌜ (last ≤ 1023) × HasBlocks (now barred) ⌝ }
+    requires { ⌜ last ≤ 1023 ⌝ }
+    requires { ⌜ HasBlocks (now barred) ⌝ }
     ensures { λ r. ⌜ PermittedUpTo (now (barred .entry)) pairs last r ⌝ }
 {
     if pairs == 0 {
@@ -103,11 +105,11 @@ fn permitted_up_to(barred: &[u64], pairs: usize, last: u32) -> u32
     }
     let mut count: u32 = 0;
     let mut k: usize = 0;
-    while k < (last / 64) as usize {
-        count += blocks::zeros_up_to(barred[k], 63);
+    while k < (last / blocks::BLOCK_SETS) as usize {
+        count += blocks::zeros_up_to(barred[k], blocks::LAST_PLACE);
         k += 1;
     }
-    count + blocks::zeros_up_to(barred[k], last % 64)
+    count + blocks::zeros_up_to(barred[k], last % blocks::BLOCK_SETS)
 }
 
 // From what the empty set gives, the lowest set that gives the other answer, and how many sets were judged.
@@ -132,8 +134,8 @@ fn answer(empty: bool, other: Found, judged: u32) -> ChoiceAnswer
     }
 }
 
-// One pass. The empty set comes first and has no pair: so the pass has one of the two answers there, and the lowest set that
-// does not give the same is all that is left to find.
+// One pass. The empty set comes first and has no pair: so the pass has one of the two answers there, and the lowest set
+// that does not give the same is all that is left to find.
 fn sound_choice(words: &[u32]) -> ChoiceAnswer
     requires { ⌜ verdict (now words) ≡ result tt ⌝ }
     ensures { λ r. ⌜ choiceMeaning r ≡ chosen (now (words .entry)) ⌝ }
@@ -147,7 +149,7 @@ fn sound_choice(words: &[u32]) -> ChoiceAnswer
         let barred = group_barred(words, pairs, group);
         groups::reading(words, pairs, group, &mut values);
         empty = empty_gives(empty, &values, group);
-        // The other answer is given where the listing differs from a table of the empty set's; the same sets are barred for both.
+        // The other answer is given where the listing differs from a table of the empty set's; both bar the same sets.
         let same = [blocks::all_if(empty); groups::TABLE_WORDS];
         let other = lowest_apart(&barred, &barred, &values, &same, group);
         if let Found::At(set) = other {
@@ -163,8 +165,8 @@ fn sound_choice(words: &[u32]) -> ChoiceAnswer
 pub fn choice(words: &[u32]) -> ChoiceAnswer
     ensures { λ r. ⌜ choiceMeaning r ≡ chosen (now (words .entry)) ⌝ }
 {
-    let v = layout::check(words);
-    match v {
+    let verdict = layout::check(words);
+    match verdict {
         layout::Verdict::Sound => sound_choice(words),
         layout::Verdict::Declined(fault) => ChoiceAnswer::Declined(fault),
     }
@@ -172,7 +174,8 @@ pub fn choice(words: &[u32]) -> ChoiceAnswer
 
 // The lowest set where the two sound listings differ.
 fn lowest_difference(one: &[u32], two: &[u32]) -> Found
-    requires { ⌜ (verdict (now one) ≡ result tt) × (verdict (now two) ≡ result tt) ⌝ }
+    requires { ⌜ verdict (now one) ≡ result tt ⌝ }
+    requires { ⌜ verdict (now two) ≡ result tt ⌝ }
     ensures { λ r. ⌜ foundMeaning r ≡ lowestSet (differAt (now (one .entry)) (now (two .entry))) ⌝ }
 {
     let pairs = groups::pair_count(one);
@@ -185,9 +188,9 @@ fn lowest_difference(one: &[u32], two: &[u32]) -> Found
         let also = group_barred(two, others, group);
         groups::reading(one, pairs, group, &mut firsts);
         groups::reading(two, others, group, &mut seconds);
-        let f = lowest_apart(&barred, &also, &firsts, &seconds, group);
-        let Found::Nowhere = f else {
-            return f;
+        let found = lowest_apart(&barred, &also, &firsts, &seconds, group);
+        let Found::Nowhere = found else {
+            return found;
         };
         group += 1;
     }
@@ -206,11 +209,12 @@ pub enum ComparisonAnswer {
 }
 
 fn sound_comparison(one: &[u32], two: &[u32]) -> ComparisonAnswer
-    requires { ⌜ (verdict (now one) ≡ result tt) × (verdict (now two) ≡ result tt) ⌝ }
+    requires { ⌜ verdict (now one) ≡ result tt ⌝ }
+    requires { ⌜ verdict (now two) ≡ result tt ⌝ }
     ensures { λ r. ⌜ comparisonMeaning r ≡ comparison (now (one .entry)) (now (two .entry)) ⌝ }
 {
-    let f = lowest_difference(one, two);
-    match f {
+    let found = lowest_difference(one, two);
+    match found {
         Found::At(set) => {
             if rod::reading(one, set) {
                 ComparisonAnswer::FirstYes(set)
@@ -226,11 +230,11 @@ fn sound_comparison(one: &[u32], two: &[u32]) -> ComparisonAnswer
 pub fn compare(one: &[u32], two: &[u32]) -> ComparisonAnswer
     ensures { λ r. ⌜ comparisonMeaning r ≡ comparison (now (one .entry)) (now (two .entry)) ⌝ }
 {
-    let v = layout::check(one);
-    match v {
+    let verdict = layout::check(one);
+    match verdict {
         layout::Verdict::Sound => {
-            let w = layout::check(two);
-            match w {
+            let other = layout::check(two);
+            match other {
                 layout::Verdict::Sound => sound_comparison(one, two),
                 layout::Verdict::Declined(fault) => ComparisonAnswer::SecondDeclined(fault),
             }

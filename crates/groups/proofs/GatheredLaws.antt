@@ -9,7 +9,7 @@ use lib.ListN.{length, getD}
 use Rattle.arith.specs.Lists.{exists}
 use Rattle.arith.proofs.EveryExists.{exists-append}
 use Rattle.arith.proofs.Each.{each-front, each-rest}
-use Rattle.rod.specs.Values.{lineAt, AllSets}
+use Rattle.rod.specs.Values.{maskAt, AllSets}
 use Rattle.groups.specs.Groups.{masksFrom, MasksAt, tells, maskReaches, Added, Gathered}
 
 -- ---- rows of records
@@ -20,7 +20,7 @@ unfolding masksFrom
 masks-append ws zero i m = ap₂ (λ (x y : ℕ). masksFrom ws x y) (sym (add-zero i)) (zero-add m)
 masks-append ws (suc n) i m =
     ap (masksFrom ws i) (suc-add n m)
-    ∙ ap (λ (ms : List ℕ). lineAt ws i ∷ ms) (masks-append ws n (i + 1) m ∙ ap (λ (x : ℕ). masksFrom ws (i + 1) n ++ masksFrom ws x m) (next i n))
+    ∙ ap (λ (ms : List ℕ). maskAt ws i ∷ ms) (masks-append ws n (i + 1) m ∙ ap (λ (x : ℕ). masksFrom ws (i + 1) n ++ masksFrom ws x m) (next i n))
   where
     next : (a c : ℕ) → a + 1 + c ≡ a + suc c
     next a c = omega arith
@@ -67,7 +67,7 @@ gathered-none ws from end group table room m = record { more = m; room = room; s
 
 -- a record is left
 module _ {ws : List ℕ} {end i : ℕ} (m : MasksAt ws i end) (some : i < end) where
-  first-mask : masksFrom ws i (end - i) ≡ lineAt ws i ∷ masksFrom ws (i + 1) (end - (i + 1))
+  first-mask : masksFrom ws i (end - i) ≡ maskAt ws i ∷ masksFrom ws (i + 1) (end - (i + 1))
   unfolding masksFrom
   first-mask = ap (masksFrom ws i) one-more
     where
@@ -77,21 +77,21 @@ module _ {ws : List ℕ} {end i : ℕ} (m : MasksAt ws i end) (some : i < end) w
   pub mask-within : i < length ws / 4
   mask-within = omega (arith, m .within)
 
-  pub mask-set : lineAt ws i ≤ 65535
+  pub mask-set : maskAt ws i ≤ 65535
   mask-set = subst AllSets first-mask (m .sets) .0
 
   masks-after : MasksAt ws (i + 1) end
   masks-after = record { ordered = omega arith; within = m .within; sets = subst AllSets first-mask (m .sets) .1 }
 
 module _ {ws : List ℕ} {from end group : ℕ} {table left : List ℕ} {i : ℕ} (g : Gathering ws from end group table left i) where
-  pub gathered-more : i < end → (next : List ℕ) → Added (lineAt ws i) group left next → Gathering ws from end group table next (i + 1)
+  pub gathered-more : i < end → (next : List ℕ) → Added (maskAt ws i) group left next → Gathering ws from end group table next (i + 1)
   gathered-more some next a =
       record {
         more = masks-after (g .more) some;
         room = a .room;
         same = λ x h.
             ap (λ (t : Bool). t || exists (maskReaches 0 group x) (masksFrom ws (i + 1) (end - (i + 1)))) (a .told x h)
-            ∙ or-assoc (tells left x) (maskReaches 0 group x (lineAt ws i)) (exists (maskReaches 0 group x) (masksFrom ws (i + 1) (end - (i + 1))))
+            ∙ or-assoc (tells left x) (maskReaches 0 group x (maskAt ws i)) (exists (maskReaches 0 group x) (masksFrom ws (i + 1) (end - (i + 1))))
             ∙ ap (λ (ms : List ℕ). tells left x || exists (maskReaches 0 group x) ms) (sym (first-mask (g .more) some))
             ∙ g .same x h;
       }

@@ -18,10 +18,10 @@ use Rattle.layout.proofs.KeptLaws.{kept-policy, kept-join, no-owner}
 use Rattle.layout.proofs.SoundNodes.{sound-well-formed}
 use Rattle.layout.proofs.Places.{from-nil}
 use Rattle.rod.specs.Reading.{policyValue, joined, says}
-use Rattle.rod.specs.Values.{policyAt, nodeEnd}
+use Rattle.rod.specs.Values.{listedAt, nodeEnd, NodeTo, NodeAt}
 use Rattle.rod.proofs.Steps.{step, node-after, policy-lines, taken-here, first-node}
-use Rattle.groups.specs.Groups.{GroupOf, SoundWith}
-use Rattle.groups.specs.Values.{valueWord, PolicyWord, PolicyPut, JoinedWord, JoinPut, PolicyHere, heldWords, column, GroupUnderway}
+use Rattle.groups.specs.Groups.{groupSet, GroupOf, SoundWith}
+use Rattle.groups.specs.Values.{valueWord, ValueRoom, TwoValues, PolicyWord, PolicyPut, JoinedWord, JoinPut, PolicyHere, heldWords, column, GroupUnderway}
 use Rattle.groups.proofs.Pairs.{pair-kind}
 
 -- ---- the words held
@@ -31,21 +31,21 @@ module _ (Told : ℕ → ℕ → Type 0) (height : ℕ) (values left : List ℕ)
   held-below : (n : ℕ) → n ≤ height → heldWords left k n ≡ heldWords values k n
   unfolding heldWords
   held-below zero h = refl
-  held-below (suc n) h = ap₂ (λ (x : ℕ) (xs : List ℕ). x ∷ xs) (w .others (n * 16 + k) (λ m l e. omega arith)) (held-below n (omega arith))
+  held-below (suc n) h = ap₂ (λ (x : ℕ) (xs : List ℕ). x ∷ xs) (w .others (valueWord n k) (λ m l e. omega arith)) (held-below n (omega arith))
 
-  held-more : heldWords left k (height + 1) ≡ getD left (height * 16 + k) 0 ∷ heldWords values k height
+  held-more : heldWords left k (height + 1) ≡ getD left (valueWord height k) 0 ∷ heldWords values k height
   unfolding heldWords
-  held-more = rw (add-one height) (ap (λ (xs : List ℕ). getD left (height * 16 + k) 0 ∷ xs) (held-below height (omega arith)))
+  held-more = rw (add-one height) (ap (λ (xs : List ℕ). getD left (valueWord height k) 0 ∷ xs) (held-below height (omega arith)))
 
 -- the last two
-held-two : (values : List ℕ) (k height : ℕ) → heldWords values k (height + 2) ≡ getD values (height * 16 + 16 + k) 0 ∷ getD values (height * 16 + k) 0 ∷ heldWords values k height
+held-two : (values : List ℕ) (k height : ℕ) → heldWords values k (height + 2) ≡ getD values (valueWord (height + 1) k) 0 ∷ getD values (valueWord height k) 0 ∷ heldWords values k height
 unfolding heldWords
-held-two values k height = ap (heldWords values k) (two height) ∙ ap (λ (i : ℕ). getD values i 0 ∷ getD values (height * 16 + k) 0 ∷ heldWords values k height) (next height k)
+held-two values k height = ap (heldWords values k) (two height) ∙ ap (λ (i : ℕ). getD values i 0 ∷ getD values (valueWord height k) 0 ∷ heldWords values k height) (next height k)
   where
     two : (n : ℕ) → n + 2 ≡ suc (suc n)
     two n = omega arith
 
-    next : (n i : ℕ) → suc n * 16 + i ≡ n * 16 + 16 + i
+    next : (n i : ℕ) → suc n * 16 + i ≡ (n + 1) * 16 + i
     next n i = omega arith
 
 -- ---- the way
@@ -55,75 +55,80 @@ unfolding recordsFrom noRecord heldWords column says first-node
 group-begins ws group values room v within =
     record { within = within; room = room; node = first-node ws v; level = refl; few = omega arith; atMost = omega arith; same = λ k b j h. refl }
 
-module _ (ws : List ℕ) (group at : ℕ) (values : List ℕ) (height : ℕ) (lt : at < length ws / 4) (u : GroupUnderway ws group at values height) where
+-- no line follows an exclusion
+pair-end : (ws : List ℕ) (at : ℕ) (lt : at < length ws / 4) (node : NodeAt ws at) → exclusion ≡ kindOf (getD ws (at * 4) 0) → suc at ≡ nodeEnd ws at
+unfolding nodeEnd soFarAfter
+pair-end ws at lt node e = omega (arith, ap length (no-owner (at + 1) _ (recordsFrom ws (at + 1)) refl (step ws at lt node exclusion e .1)))
+
+-- past a node that ends before index `end`
+module _ (ws : List ℕ) (group at end : ℕ) (values : List ℕ) (height : ℕ) (n : NodeTo ws at end) (u : GroupUnderway ws group at values height) where
+  -- at the index that the code has
+  at-end : (left : List ℕ) (many : ℕ) → GroupUnderway ws group (nodeEnd ws at) left many → GroupUnderway ws group end left many
+  at-end left many v = subst (λ (x : ℕ). GroupUnderway ws group x left many) (sym (n .ends)) v
+
   -- the values of a set of the group
   abbrev after : List ListedNode → ℕ → ℕ → List Bool → Bool
-  after ns k j stack = getD (run joined (policyValue (64 * (16 * group + k) + j)) ns stack) 0 false
+  after ns k j stack = getD (run joined (policyValue (groupSet group k j)) ns stack) 0 false
 
   -- a policy adds its words
-  module _ (q t : Bool) (e : policy q t ≡ kindOf (getD ws (at * 4) 0)) where
+  module _ (quiet turned : Bool) (e : policy quiet turned ≡ kindOf (getD ws (at * 4) 0)) where
     kept : (getD ws (at * 4 + 1) 0 ≤ 65535) × (u .node .above .policies + 1 ≤ 16)
-    kept = let k = kept-policy (at + 1) (u .node .above) (recordAt ws at) (kinds (recordsFrom ws (at + 1))) q t (step ws at lt (u .node) (policy q t) e .0) in (k .0, k .3)
+    kept = let k = kept-policy (at + 1) (u .node .above) (recordAt ws at) (kinds (recordsFrom ws (at + 1))) quiet turned (step ws at (n .within) (u .node) (policy quiet turned) e .0) in (k .0, k .3)
 
-    pub policy-here : (end : ℕ) → end ≡ nodeEnd ws at → PolicyHere ws at end
-    policy-here end n = record { within = lt; set = kept .0; lines = policy-lines ws at lt (u .node) q t e end n }
+    pub policy-here : PolicyHere ws at end
+    policy-here = record { within = n .within; set = kept .0; lines = policy-lines ws at (n .within) (u .node) quiet turned e end (n .ends) }
 
-    pub policy-room : height < 16
-    policy-room = omega (arith, kept .1, u .few, u .level)
+    pub policy-room : ValueRoom values height
+    policy-room = record { room = u .room; below = omega (arith, kept .1, u .few, u .level) }
 
-    pub past-group-policy : (left : List ℕ) → PolicyPut (policyAt ws at q t) group height values left → GroupUnderway ws group (nodeEnd ws at) left (height + 1)
+    pub past-group-policy : (left : List ℕ) → PolicyPut (listedAt ws at quiet turned) group height values left → GroupUnderway ws group end left (height + 1)
     unfolding soFarAfter nodeThen run node-after column
     past-group-policy left s =
-        record {
+        at-end left (height + 1)
+        (record {
           within = u .within;
           room = s .room ∙ u .room;
-          node = node-after ws at lt (u .node) (policy q t) e;
+          node = node-after ws at (n .within) (u .node) (policy quiet turned) e;
           level = omega (arith, u .level);
           few = omega (arith, u .few);
           atMost = kept .1;
           same = λ k b j h.
-              ap (λ (held : List ℕ). after (nodes (recordsFrom ws (nodeEnd ws at))) k j (column j held)) (held-more (PolicyWord (policyAt ws at q t) group) height values left s k b)
+              ap (λ (held : List ℕ). after (nodes (recordsFrom ws (nodeEnd ws at))) k j (column j held)) (held-more (PolicyWord (listedAt ws at quiet turned) group) height values left s k b)
               ∙ ap (λ (x : Bool). after (nodes (recordsFrom ws (nodeEnd ws at))) k j (x ∷ column j (heldWords values k height))) (s .told k b j h)
-              ∙ taken-here ws at lt (u .node) (64 * (16 * group + k) + j) (column j (heldWords values k height)) (policy q t) e
+              ∙ taken-here ws at (n .within) (u .node) (groupSet group k j) (column j (heldWords values k height)) (policy quiet turned) e
               ∙ u .same k b j h;
-        }
+        })
 
   -- an exclusion leaves the words as they are
-  pub past-group-exclusion : exclusion ≡ kindOf (getD ws (at * 4) 0) → GroupUnderway ws group (nodeEnd ws at) values height
+  pub past-group-exclusion : exclusion ≡ kindOf (getD ws (at * 4) 0) → GroupUnderway ws group end values height
   unfolding soFarAfter nodeThen node-after
   past-group-exclusion e =
-      record {
+      at-end values height
+      (record {
         within = u .within;
         room = u .room;
-        node = node-after ws at lt (u .node) exclusion e;
+        node = node-after ws at (n .within) (u .node) exclusion e;
         level = u .level;
         few = u .few;
         atMost = u .atMost;
-        same = λ k b j h. taken-here ws at lt (u .node) (64 * (16 * group + k) + j) (column j (heldWords values k height)) exclusion e ∙ u .same k b j h;
-      }
-
-  -- and no line follows it
-  pair-end : exclusion ≡ kindOf (getD ws (at * 4) 0) → suc at ≡ nodeEnd ws at
-  unfolding nodeEnd soFarAfter
-  pair-end e = omega (arith, ap length (no-owner (at + 1) _ (recordsFrom ws (at + 1)) refl (step ws at lt (u .node) exclusion e .1)))
+        same = λ k b j h. taken-here ws at (n .within) (u .node) (groupSet group k j) (column j (heldWords values k height)) exclusion e ∙ u .same k b j h;
+      })
 
   -- a join makes one value of two
   module _ (o : Join) (e : Kind.join o ≡ kindOf (getD ws (at * 4) 0)) where
-    pub two-values : 2 ≤ height
+    pub two-values : TwoValues values height
     two-values =
-        let k = kept-join (at + 1) (u .node .above) (recordAt ws at) (kinds (recordsFrom ws (at + 1))) o (step ws at lt (u .node) (Kind.join o) e .0) in
-        omega (arith, k .3, u .level)
+        let k = kept-join (at + 1) (u .node .above) (recordAt ws at) (kinds (recordsFrom ws (at + 1))) o (step ws at (n .within) (u .node) (Kind.join o) e .0) in
+        record { room = u .room; least = omega (arith, k .3, u .level); most = omega (arith, u .few, u .atMost, u .level) }
 
-    pub values-room : height ≤ 16
-    values-room = omega (arith, u .few, u .atMost, u .level)
-
-    pub past-group-join : (left : List ℕ) → JoinPut o (height - 2) values left → GroupUnderway ws group (nodeEnd ws at) left (height - 1)
+    pub past-group-join : (left : List ℕ) → JoinPut o (height - 2) values left → GroupUnderway ws group end left (height - 1)
     unfolding soFarAfter nodeThen run joinedLast node-after column
     past-group-join left s =
-        record {
+        at-end left (height - 1)
+        (record {
           within = u .within;
           room = s .room ∙ u .room;
-          node = node-after ws at lt (u .node) (Kind.join o) e;
+          node = node-after ws at (n .within) (u .node) (Kind.join o) e;
           level = omega (arith, u .level);
           few = omega (arith, u .few);
           atMost = u .atMost;
@@ -131,20 +136,15 @@ module _ (ws : List ℕ) (group at : ℕ) (values : List ℕ) (height : ℕ) (lt
               ap (λ (held : List ℕ). after (nodes (recordsFrom ws (nodeEnd ws at))) k j (column j held)) (ap (heldWords left k) one-less ∙ held-more (JoinedWord o (height - 2) values) (height - 2) values left s k b)
               ∙ ap (λ (x : Bool). after (nodes (recordsFrom ws (nodeEnd ws at))) k j (x ∷ column j (heldWords values k (height - 2)))) (s .told k b j h)
               ∙ ap (λ (held : List ℕ). after (nodeThen (Kind.join o) (getD ws (at * 4 + 1) 0) (leadingLines (recordsFrom ws (at + 1))) (nodes (recordsFrom ws (nodeEnd ws at)))) k j (column j held)) (sym (held-two values k (height - 2)) ∙ ap (heldWords values k) two-less)
-              ∙ taken-here ws at lt (u .node) (64 * (16 * group + k) + j) (column j (heldWords values k height)) (Kind.join o) e
+              ∙ taken-here ws at (n .within) (u .node) (groupSet group k j) (column j (heldWords values k height)) (Kind.join o) e
               ∙ u .same k b j h;
-        }
+        })
       where
         one-less : height - 1 ≡ height - 2 + 1
-        one-less = omega (arith, two-values)
+        one-less = omega (arith, two-values .least)
 
         two-less : height - 2 + 2 ≡ height
-        two-less = omega (arith, two-values)
-
--- the same at the index that the code has
-pub group-at-end : (ws : List ℕ) (group at end : ℕ) (values : List ℕ) (height : ℕ) → end ≡ nodeEnd ws at
-    → GroupUnderway ws group (nodeEnd ws at) values height → GroupUnderway ws group end values height
-group-at-end ws group at end values height e u = subst (λ (x : ℕ). GroupUnderway ws group x values height) (sym e) u
+        two-less = omega (arith, two-values .least)
 
 -- past the pairs that the listing begins with
 pub past-pairs : (ws : List ℕ) (pairs group : ℕ) (values : List ℕ) → length values ≡ 256 → SoundWith ws pairs → group ≤ 63 → (n : ℕ) → n ≤ pairs → GroupUnderway ws group n values 0
@@ -152,7 +152,7 @@ past-pairs ws pairs group values room s within zero h = group-begins ws group va
 past-pairs ws pairs group values room s within (suc n) h =
     let p = pair-kind ws pairs s n (omega arith) in
     let u = past-pairs ws pairs group values room s within n (omega arith) in
-    group-at-end ws group n (suc n) values 0 (pair-end ws group n values 0 (p .0) u (p .1)) (past-group-exclusion ws group n values 0 (p .0) u (p .1))
+    past-group-exclusion ws group n (suc n) values 0 (record { within = p .0; ends = pair-end ws n (p .0) (u .node) (p .1) }) u (p .1)
 
 -- after the last record one value remains
 pub group-ends : (ws : List ℕ) (group at : ℕ) (values : List ℕ) (height : ℕ) → length ws / 4 ≤ at → GroupUnderway ws group at values height → GroupOf (says ws) group values

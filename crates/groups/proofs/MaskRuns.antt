@@ -11,12 +11,12 @@ use Rattle.arith.proofs.Order.{le-or-lt}
 use Rattle.layout.specs.Nodes.{leadingLines}
 use Rattle.layout.specs.Steps.{recordsFrom}
 use Rattle.layout.proofs.Runs.{leading-more, leading-end}
-use Rattle.rod.specs.Values.{lineAt, AllSets, LinesTo}
+use Rattle.rod.specs.Values.{maskAt, AllSets, LinesTo}
 use Rattle.groups.specs.Groups.{GroupOf, masksFrom, MasksAt}
 use Rattle.groups.specs.Values.{PolicyHere}
 
 -- a run has the mask of the record here, and then those of the run from the next record on
-module _ (ws : List ℕ) (run : ℕ → List ℕ) (more : (i : ℕ) → 0 < length (run i) → (i < length ws / 4) × (run i ≡ lineAt ws i ∷ run (i + 1))) where
+module _ (ws : List ℕ) (run : ℕ → List ℕ) (more : (i : ℕ) → 0 < length (run i) → (i < length ws / 4) × (run i ≡ maskAt ws i ∷ run (i + 1))) where
   run-masks : (n i : ℕ) → length (run i) ≡ n → run i ≡ masksFrom ws i n
   unfolding masksFrom
   run-masks zero i e = empty (run i) e
@@ -26,7 +26,7 @@ module _ (ws : List ℕ) (run : ℕ → List ℕ) (more : (i : ℕ) → 0 < leng
       empty (m ∷ ms) h = absurd (omega arith)
   run-masks (suc n) i e =
       let m = more i (omega arith) in
-      m .1 ∙ ap (λ (ms : List ℕ). lineAt ws i ∷ ms) (run-masks n (i + 1) (omega (arith, ap length (m .1))))
+      m .1 ∙ ap (λ (ms : List ℕ). maskAt ws i ∷ ms) (run-masks n (i + 1) (omega (arith, ap length (m .1))))
 
   run-within : (n i : ℕ) → length (run i) ≡ n → i ≤ length ws / 4 → i + n ≤ length ws / 4
   run-within zero i e h = rw (add-zero i) h
@@ -48,7 +48,7 @@ module _ (ws : List ℕ) (run : ℕ → List ℕ) (more : (i : ℕ) → 0 < leng
 
 -- where lines are left, one stands here
 line-more : (ws : List ℕ) (i : ℕ) → 0 < length (leadingLines (recordsFrom ws i))
-    → (i < length ws / 4) × (leadingLines (recordsFrom ws i) ≡ lineAt ws i ∷ leadingLines (recordsFrom ws (i + 1)))
+    → (i < length ws / 4) × (leadingLines (recordsFrom ws i) ≡ maskAt ws i ∷ leadingLines (recordsFrom ws (i + 1)))
 line-more ws i some =
     ⊎-elim
     (λ (l : length ws / 4 ≤ i). absurd (omega (arith, ap length (leading-end ws i l))))

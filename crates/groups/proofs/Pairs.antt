@@ -19,7 +19,7 @@ use Rattle.layout.specs.Steps.{recordsFrom}
 use Rattle.layout.proofs.KindLaws.{kind-exclusion, Numbered, numbered}
 use Rattle.layout.proofs.SoundNodes.{sound-exclusions}
 use Rattle.layout.proofs.Places.{from-cons, from-nil}
-use Rattle.rod.specs.Values.{lineAt, AllSets}
+use Rattle.rod.specs.Values.{maskAt, AllSets}
 use Rattle.groups.specs.Groups.{masksFrom, MasksAt, SoundWith}
 use Rattle.groups.proofs.MaskRuns.{masks-run, masks-at}
 
@@ -33,7 +33,7 @@ no-pair-here ws i h n = rw (from-cons ws i h) (go (kindOf (getD ws (i * 4) 0)) (
   where
     go : (k : Kind) → Numbered k (getD ws (i * 4) 0) → pairThen k (getD ws (i * 4 + 1) 0) (excluded (recordsFrom ws (i + 1))) ≡ []
     go exclusion e = absurd (n e)
-    go (policy q t) e = refl
+    go (policy quiet turned) e = refl
     go line e = refl
     go (Kind.join j) e = refl
     go unknown e = refl
@@ -56,7 +56,7 @@ pair-left ws i some =
 
 -- the pairs' masks, as the records have them
 module _ (ws : List ℕ) (pairs : ℕ) (s : SoundWith ws pairs) where
-  pair-more : (i : ℕ) → 0 < length (excluded (recordsFrom ws i)) → (i < length ws / 4) × (excluded (recordsFrom ws i) ≡ lineAt ws i ∷ excluded (recordsFrom ws (i + 1)))
+  pair-more : (i : ℕ) → 0 < length (excluded (recordsFrom ws i)) → (i < length ws / 4) × (excluded (recordsFrom ws i) ≡ maskAt ws i ∷ excluded (recordsFrom ws (i + 1)))
   pair-more i some = let p = pair-left ws i some in (p .0, pair-here ws i (p .0) (p .1))
 
   count : pairs ≡ 0 + length (excluded (recordsFrom ws 0))

@@ -23,18 +23,18 @@ use Rattle.layout.specs.Records.{Join}
 use Rattle.layout.specs.Nodes.{ListedPolicy}
 use Rattle.rod.specs.Reading.{someLine, policyValue, joined}
 use Rattle.rod.specs.Values.{joinMeaning}
-use Rattle.groups.specs.Groups.{GroupOf}
-use Rattle.groups.specs.Values.{valueWord, policyBit, BlockWord, PolicyWord, JoinedWord}
+use Rattle.groups.specs.Groups.{groupSet, GroupOf}
+use Rattle.groups.specs.Values.{valueWord, valueBit, policyBit, BlockWord, PolicyWord, JoinedWord}
 
 -- a policy's word, by the code's `^`, `&`, `|` and `!`
-pub policy-bits : (over found turn still : ℕ) → over < 2 ^ 64
-    → WordOf (policyBit over found turn still) (bitOr (bitAnd (bitXor found turn) over) (bitAnd still (2 ^ 64 - 1 - over)))
-policy-bits over found turn still small j h =
-    present-or (bitAnd (bitXor found turn) over) (bitAnd still (2 ^ 64 - 1 - over)) j
+pub policy-bits : (shared found turn still : ℕ) → shared < 2 ^ 64
+    → WordOf (policyBit shared found turn still) (bitOr (bitAnd (bitXor found turn) shared) (bitAnd still (2 ^ 64 - 1 - shared)))
+policy-bits shared found turn still small j h =
+    present-or (bitAnd (bitXor found turn) shared) (bitAnd still (2 ^ 64 - 1 - shared)) j
     ∙ ap₂ (λ (s t : Bool). s || t)
-    (present-and (bitXor found turn) over j ∙ ap (λ (t : Bool). t && present over j) (present-xor found turn j))
-    (present-and still (2 ^ 64 - 1 - over) j ∙ ap (λ (t : Bool). present still j && t) (present-not 64 over j small h))
-    ∙ go (present over j) (not (Bool·beq (present found j) (present turn j))) (present still j)
+    (present-and (bitXor found turn) shared j ∙ ap (λ (t : Bool). t && present shared j) (present-xor found turn j))
+    (present-and still (2 ^ 64 - 1 - shared) j ∙ ap (λ (t : Bool). present still j && t) (present-not 64 shared j small h))
+    ∙ go (present shared j) (not (Bool·beq (present found j) (present turn j))) (present still j)
   where
     go : (o v s : Bool) → ((v && o) || (s && not o)) ≡ cond o v s
     go true true s = refl
@@ -57,21 +57,26 @@ module _ (a b : ℕ) (o : Bool) where
 
 -- from two words that are in the table by now, where the joined ones before them stand
 pub joined-here : (o : Join) (values : List ℕ) (height n : ℕ) (left : List ℕ) → Written (valueWord height) (JoinedWord o height values) n values left → (word : ℕ)
-    → WordOf (λ j. joined o (present (getD left (height * 16 + n) 0) j) (present (getD left (height * 16 + 16 + n) 0) j)) word → JoinedWord o height values n word
+    → WordOf (λ j. joined o (present (getD left (valueWord height n) 0) j) (present (getD left (height * 16 + 16 + n) 0) j)) word → JoinedWord o height values n word
 joined-here o values height n left w word t j h =
-    t j h ∙ ap₂ (λ (x y : ℕ). joined o (present x j) (present y j)) (w .others (height * 16 + n) (λ k l e. omega arith)) (w .others (height * 16 + 16 + n) (λ k l e. omega arith))
+    t j h
+    ∙ ap₂ (λ (x y : ℕ). joined o (present x j) (present y j)) (w .others (valueWord height n) (λ k l e. omega arith))
+    (w .others (height * 16 + 16 + n) (λ k l e. omega arith) ∙ ap (λ (i : ℕ). getD values i 0) next)
+  where
+    next : height * 16 + 16 + n ≡ valueWord (height + 1) n
+    next = omega arith
 
 -- by the word of an overlap
-pub block-told : (mask group : ℕ) (found : List ℕ) (turn still k over word : ℕ) → BlockOf (overlap mask) (16 * group + k) over
-    → WordOf (policyBit over (getD found k 0) turn still) word → BlockWord mask group found turn still k word
-block-told mask group found turn still k over word o w j h =
-    w j h ∙ ap (λ (s : Bool). cond s (not (Bool·beq (present (getD found k 0) j) (present turn j))) (present still j)) (o j h)
+pub block-told : (mask group : ℕ) (found : List ℕ) (turn still k shared word : ℕ) → BlockOf (overlap mask) (16 * group + k) shared
+    → WordOf (policyBit shared (getD found k 0) turn still) word → BlockWord mask group found turn still k word
+block-told mask group found turn still k shared word o w j h =
+    w j h ∙ ap (λ (s : Bool). valueBit s (getD found k 0) turn still j) (o j h)
 
 -- ---- what a policy says
 
 -- in every block of the group the mask overlaps the same sets as in the first
 abbrev EvenOverlap : ℕ → ℕ → Type 0
-EvenOverlap mask group = (k : ℕ) → k < 16 → (j : ℕ) → j < 64 → overlap mask (64 * (16 * group + k) + j) ≡ overlap mask (64 * (16 * group) + j)
+EvenOverlap mask group = (k : ℕ) → k < 16 → (j : ℕ) → j < 64 → overlap mask (groupSet group k j) ≡ overlap mask (64 * (16 * group) + j)
 
 -- turned over by all sets, or by none
 turned-bit : (f t : Bool) → not (Bool·beq f t) ≡ cond t (not f) f
@@ -87,21 +92,21 @@ module _ (p : ListedPolicy) (group : ℕ) (found : List ℕ) (turn still : ℕ) 
   unfolding policyValue
   blocks-told k b word w j h =
       w j h ∙ rw (f k b j h, t j h, q j h)
-      (ap (λ (v : Bool). cond (overlap (p .mask) (64 * (16 * group + k) + j)) v (p .quiet)) (turned-bit (someLine (p .lines) (64 * (16 * group + k) + j)) (p .turned)))
+      (ap (λ (v : Bool). cond (overlap (p .mask) (groupSet group k j)) v (p .quiet)) (turned-bit (someLine (p .lines) (groupSet group k j)) (p .turned)))
 
   -- by one word of its overlap
-  pub even-told : (over : ℕ) → BlockOf (overlap (p .mask)) (16 * group) over → EvenOverlap (p .mask) group
-      → (k : ℕ) → k < 16 → (word : ℕ) → WordOf (policyBit over (getD found k 0) turn still) word → PolicyWord p group k word
-  even-told over o e k b word w =
+  pub even-told : (shared : ℕ) → BlockOf (overlap (p .mask)) (16 * group) shared → EvenOverlap (p .mask) group
+      → (k : ℕ) → k < 16 → (word : ℕ) → WordOf (policyBit shared (getD found k 0) turn still) word → PolicyWord p group k word
+  even-told shared o e k b word w =
       blocks-told k b word
-      (λ j h. w j h ∙ ap (λ (s : Bool). cond s (not (Bool·beq (present (getD found k 0) j) (present turn j))) (present still j)) (o j h ∙ sym (e k b j h)))
+      (λ j h. w j h ∙ ap (λ (s : Bool). valueBit s (getD found k 0) turn still j) (o j h ∙ sym (e k b j h)))
 
 -- ---- an overlap that is the same in every block
 
 module _ (mask group : ℕ) (small : mask ≤ 65535) (within : group ≤ 63) where
   -- by the six lowest signals, those of the blocks and those of the groups
   by-parts : (k : ℕ) → k < 16 → (j : ℕ) → j < 64
-      → overlap mask (64 * (16 * group + k) + j) ≡ not (eqb (bitAnd (mask % 64) j) 0 && (eqb (bitAnd (mask / 64 % 16) k) 0 && eqb (bitAnd (mask / 1024) group) 0))
+      → overlap mask (groupSet group k j) ≡ not (eqb (bitAnd (mask % 64) j) 0 && (eqb (bitAnd (mask / 64 % 16) k) 0 && eqb (bitAnd (mask / 1024) group) 0))
   by-parts k b j h =
       shares mask (16 * group + k) j small (omega arith) h
       ∙ ap (λ (t : Bool). not (eqb (bitAnd (mask % 64) j) 0 && t))

@@ -1,32 +1,37 @@
-// What a sound listing says of 1,024 sets at once. A group is 16 blocks, the sets from 1024 * group on, and a table has a word
-// for each block. The functions are for the crates above, and allocate nothing.
+// What a sound listing says of 1,024 sets at once. A group is 16 blocks, the sets from 1024 * group on, and a table has
+// a word for each block. The functions are for the crates above, and allocate nothing.
 ghost use mathlib.Core.Bool.{_||_};
 ghost use mathlib.Core.Path.{_≡_};
-ghost use Prim.Native.Nat.{_-_, _/_, _%_, _≤_, _<_};
+ghost use Prim.Native.Nat.{_-_, _/_, _%_, _<_};
 ghost use lib.Dec.{eqb};
-ghost use lib.ListN.{length};
 ghost use Rattle.signals.specs.Sets.{present, inside, overlap};
-ghost use Rattle.blocks.specs.Blocks.{WordOf};
-ghost use Rattle.rod.specs.Reading.{someLine, joined, says};
-ghost use Rattle.rod.specs.Values.{joinMeaning, nodeEnd};
-ghost use Rattle.groups.specs.Groups.{GroupOf, masksFrom, MasksAt, pairCount, SoundWith, Added, Gathered, Spread, AllSpread};
-ghost use Rattle.groups.specs.Values.{policyBit, EvenPut, BlocksPut, Said, JoinPut, PolicyHere, GroupUnderway};
+ghost use Rattle.blocks.specs.Blocks.{WordOf, LowTold};
+ghost use Rattle.rod.specs.Reading.{someLine, joined};
+ghost use Rattle.rod.specs.Values.{joinMeaning, NodeTo};
+ghost use Rattle.groups.specs.Groups.{IsGroup, IsTable, GroupOf, masksFrom, MasksAt, CanGather, pairCount, SoundGroup, SetAndGroup, Added, Gathered, BlockSignal, Spread, AllSpread};
+ghost use Rattle.groups.specs.Values.{SixteenTables, ValueRoom, TwoValues, policyBit, EvenPut, BlocksPut, Said, JoinPut, PolicyHere, GroupUnderway, GroupRead};
 
-// A word for each block of a group.
-pub const TABLE_WORDS: usize = 16;
+// How many blocks a group has.
+pub const GROUP_BLOCKS: u32 = 16;
+
+// A word for each of them.
+pub const TABLE_WORDS: usize = GROUP_BLOCKS as usize;
 
 pub type Table = [u64; TABLE_WORDS];
 
-// A listing has at most sixteen values at a time, and each is a table.
-pub const VALUE_WORDS: usize = 256;
+// A listing has at most so many values at a time.
+const MOST_VALUES: usize = 16;
+
+// Each value is a table.
+pub const VALUE_WORDS: usize = MOST_VALUES * TABLE_WORDS;
 
 type Values = [u64; VALUE_WORDS];
 
 // How many sets a group has.
-pub const GROUP_SETS: u32 = 1024;
+pub const GROUP_SETS: u32 = GROUP_BLOCKS * blocks::BLOCK_SETS;
 
 // The last group: its number is that of the six highest signals.
-const HIGHEST_GROUP: u32 = 63;
+pub const HIGHEST_GROUP: u32 = signals::HIGHEST_SET / GROUP_SETS;
 
 // How many excluded pairs the listing begins with.
 pub fn pair_count(words: &[u32]) -> usize
@@ -44,7 +49,7 @@ pub fn pair_count(words: &[u32]) -> usize
 
 // The mask has none of the six highest signals that the group lacks.
 fn is_within(mask: u32, group: u32) -> bool
-    requires { ⌜ (mask ≤ 65535) × (group ≤ 63) ⌝ }
+    requires { ⌜ SetAndGroup mask group ⌝ }
     ensures { λ r. ⌜ r ≡ inside (mask / 1024) group ⌝ }
 {
     mask & (HIGHEST_GROUP - group) * GROUP_SETS == 0
@@ -52,15 +57,19 @@ fn is_within(mask: u32, group: u32) -> bool
 
 // If the group has the mask's six highest signals, its set with just the mask's ten lowest is put into the table.
 fn add_mask(table: &mut Table, mask: u32, group: u32)
-    requires { ⌜ (length (now table) ≡ 16) × (mask ≤ 65535) × (group ≤ 63) ⌝ }
+    requires { ⌜ IsTable (now table) ⌝ }
+    requires { ⌜ SetAndGroup mask group ⌝ }
     ensures { λ _. ⌜ Added mask group (now (table .entry)) (now (table .exit)) ⌝ }
 {
     if is_within(mask, group) {
-        let bit: u64 = 1 << (mask % 64);
-        let k = (mask / 64 % 16) as usize;
-        table[k] = table[k] | bit;
+        let marked: u64 = 1 << (mask % blocks::BLOCK_SETS);
+        let k = (mask / blocks::BLOCK_SETS % GROUP_BLOCKS) as usize;
+        table[k] = table[k] | marked;
     }
 }
+
+// Records are gathered so many at a turn.
+const TURN_RECORDS: usize = 4;
 
 // Of four records in a row the mask of the second.
 const SECOND_MASK: usize = layout::RECORD_WORDS + layout::MASK;
@@ -72,11 +81,12 @@ const THIRD_MASK: usize = 2 * layout::RECORD_WORDS + layout::MASK;
 const FOURTH_MASK: usize = 3 * layout::RECORD_WORDS + layout::MASK;
 
 // How many words the four have.
-const FOUR_RECORDS: usize = 4 * layout::RECORD_WORDS;
+const FOUR_RECORDS: usize = TURN_RECORDS * layout::RECORD_WORDS;
 
-// The masks of the records from index `from` up to `end` are put into the table, four at a turn (docs/DECISIONS.md, D37).
+// The masks of the records from `from` up to `end` are put into the table, four at a turn (docs/DECISIONS.md, D37).
 fn gather_fours(words: &[u32], from: usize, end: usize, group: u32, table: &mut Table)
-    requires { ⌜ (length (now table) ≡ 16) × (group ≤ 63) × MasksAt (now words) from end × ((end - from) % 4 ≡ 0) ⌝ }
+    requires { ⌜ CanGather (now words) from end group (now table) ⌝ }
+    requires { ⌜ (end - from) % 4 ≡ 0 ⌝ }
     ensures { λ _. ⌜ Gathered (now (words .entry)) from end group (now (table .entry)) (now (table .exit)) ⌝ }
 {
     let mut place = from * layout::RECORD_WORDS;
@@ -91,7 +101,7 @@ fn gather_fours(words: &[u32], from: usize, end: usize, group: u32, table: &mut 
 
 // The masks of the records from index `from` up to `end` are put into the table, one at a turn.
 fn gather_rest(words: &[u32], from: usize, end: usize, group: u32, table: &mut Table)
-    requires { ⌜ (length (now table) ≡ 16) × (group ≤ 63) × MasksAt (now words) from end ⌝ }
+    requires { ⌜ CanGather (now words) from end group (now table) ⌝ }
     ensures { λ _. ⌜ Gathered (now (words .entry)) from end group (now (table .entry)) (now (table .exit)) ⌝ }
 {
     let mut i = from;
@@ -103,17 +113,18 @@ fn gather_rest(words: &[u32], from: usize, end: usize, group: u32, table: &mut T
 
 // The masks of the records from index `from` up to `end` are put into the table.
 pub fn gather(words: &[u32], from: usize, end: usize, group: u32, table: &mut Table)
-    requires { ⌜ (length (now table) ≡ 16) × (group ≤ 63) × MasksAt (now words) from end ⌝ }
+    requires { ⌜ CanGather (now words) from end group (now table) ⌝ }
     ensures { λ _. ⌜ Gathered (now (words .entry)) from end group (now (table .entry)) (now (table .exit)) ⌝ }
 {
-    let rest = end - (end - from) % 4;
+    let rest = end - (end - from) % TURN_RECORDS;
     gather_fours(words, from, rest, group, table);
     gather_rest(words, rest, end, group, table);
 }
 
 // One of the six lowest signals is spread: within each word.
 fn spread_low(table: &mut Table, signal: u32)
-    requires { ⌜ (length (now table) ≡ 16) × (signal < 6) ⌝ }
+    requires { ⌜ IsTable (now table) ⌝ }
+    requires { ⌜ signal < 6 ⌝ }
     ensures { λ _. ⌜ Spread signal (now (table .entry)) (now (table .exit)) ⌝ }
 {
     let mut k: usize = 0;
@@ -125,7 +136,8 @@ fn spread_low(table: &mut Table, signal: u32)
 
 // One of the signals 6 to 9 is spread: from word to word.
 fn spread_high(table: &mut Table, signal: u32)
-    requires { ⌜ (length (now table) ≡ 16) × (6 ≤ signal) × (signal ≤ 9) ⌝ }
+    requires { ⌜ IsTable (now table) ⌝ }
+    requires { ⌜ BlockSignal signal ⌝ }
     ensures { λ _. ⌜ Spread signal (now (table .entry)) (now (table .exit)) ⌝ }
 {
     let weight: usize = 1 << (signal - 6);
@@ -138,7 +150,7 @@ fn spread_high(table: &mut Table, signal: u32)
 
 // Each set gets what is told of the sets inside it.
 pub fn spread(table: &mut Table)
-    requires { ⌜ length (now table) ≡ 16 ⌝ }
+    requires { ⌜ IsTable (now table) ⌝ }
     ensures { λ _. ⌜ AllSpread (now (table .entry)) (now (table .exit)) ⌝ }
 {
     spread_low(table, 0);
@@ -155,7 +167,8 @@ pub fn spread(table: &mut Table)
 
 // The sets of the group inside which a line lies, of the lines from index `from` up to `end`.
 fn lines_inside(words: &[u32], from: usize, end: usize, group: u32) -> Table
-    requires { ⌜ (group ≤ 63) × MasksAt (now words) from end ⌝ }
+    requires { ⌜ IsGroup group ⌝ }
+    requires { ⌜ MasksAt (now words) from end ⌝ }
     ensures { λ r. ⌜ GroupOf (someLine (masksFrom (now (words .entry)) from (end - from))) group r ⌝ }
 {
     let mut table = [0u64; TABLE_WORDS];
@@ -167,8 +180,8 @@ fn lines_inside(words: &[u32], from: usize, end: usize, group: u32) -> Table
     table
 }
 
-// What a policy says, from the sets that share a signal with its mask and those inside which a line lies. `turn` is every set
-// if it is turned, `still` if it is quiet.
+// What a policy says, from the sets that share a signal with its mask and those inside which a line lies. `turn` is
+// every set if it is turned, `still` if it is quiet.
 fn policy_word(shared: u64, found: u64, turn: u64, still: u64) -> u64
     ensures { λ r. ⌜ WordOf (policyBit shared found turn still) r ⌝ }
 {
@@ -177,15 +190,15 @@ fn policy_word(shared: u64, found: u64, turn: u64, still: u64) -> u64
 
 // The mask overlaps every block of the group alike: it has none of their own signals, or one of the group's.
 fn is_even(mask: u32, group: u32) -> bool
-    requires { ⌜ group ≤ 63 ⌝ }
+    requires { ⌜ IsGroup group ⌝ }
     ensures { λ r. ⌜ r ≡ (eqb (mask / 64 % 16) 0 || overlap (mask / 1024) group) ⌝ }
 {
-    mask / 64 % 16 == 0 || mask / GROUP_SETS & group != 0
+    mask / blocks::BLOCK_SETS % GROUP_BLOCKS == 0 || mask / GROUP_SETS & group != 0
 }
 
 // The policy's words, each by one and the same word of its overlap.
 fn put_even(values: &mut Values, height: usize, found: Table, shared: u64, turn: u64, still: u64)
-    requires { ⌜ (length (now values) ≡ 256) × (height < 16) ⌝ }
+    requires { ⌜ ValueRoom (now values) height ⌝ }
     ensures { λ _. ⌜ EvenPut shared found turn still height (now (values .entry)) (now (values .exit)) ⌝ }
 {
     let mut k: usize = 0;
@@ -206,19 +219,20 @@ fn put_blocks(
     turn: u64,
     still: u64,
 )
-    requires { ⌜ (length (now values) ≡ 256) × (height < 16) ⌝ }
-    requires { ⌜ (mask ≤ 65535) × (group ≤ 63) × WordOf (overlap (mask % 64)) low ⌝ }
+    requires { ⌜ ValueRoom (now values) height ⌝ }
+    requires { ⌜ LowTold mask low ⌝ }
+    requires { ⌜ IsGroup group ⌝ }
     ensures { λ _. ⌜ BlocksPut mask group found turn still height (now (values .entry)) (now (values .exit)) ⌝ }
 {
     let mut k: usize = 0;
     while k < TABLE_WORDS {
-        let shared = blocks::block_overlap(mask, low, 16 * group + k as u32);
+        let shared = blocks::block_overlap(mask, low, GROUP_BLOCKS * group + k as u32);
         values[height * TABLE_WORDS + k] = policy_word(shared, found[k], turn, still);
         k += 1;
     }
 }
 
-// Values are kept as tables. What the policy at index `at` says, whose lines end before index `end`, is put at this height.
+// Values are tables. What the policy at index `at` says, whose lines end before index `end`, is put at this height.
 fn put_policy(
     words: &[u32],
     at: usize,
@@ -229,16 +243,18 @@ fn put_policy(
     values: &mut Values,
     height: usize,
 )
-    requires { ⌜ (length (now values) ≡ 256) × (height < 16) × (group ≤ 63) × PolicyHere (now words) at end ⌝ }
+    requires { ⌜ ValueRoom (now values) height ⌝ }
+    requires { ⌜ PolicyHere (now words) at end ⌝ }
+    requires { ⌜ IsGroup group ⌝ }
     ensures { λ _. ⌜ Said (now (words .entry)) at quiet turned group height
         (now (values .entry)) (now (values .exit)) ⌝ }
 {
     let mask = words[at * layout::RECORD_WORDS + layout::MASK];
     let found = lines_inside(words, at + 1, end, group);
-    let low = blocks::low_overlap(mask % 64);
+    let low = blocks::low_overlap(mask % blocks::BLOCK_SETS);
     let turn = blocks::all_if(turned);
     let still = blocks::all_if(quiet);
-    let shared = blocks::block_overlap(mask, low, 16 * group);
+    let shared = blocks::block_overlap(mask, low, GROUP_BLOCKS * group);
     // Put so in any case, and again where it is not even: faster than to choose (docs/DECISIONS.md, D37).
     put_even(values, height, found, shared, turn, still);
     if is_even(mask, group) {
@@ -256,7 +272,7 @@ fn join_words(first: u64, second: u64, or: bool) -> u64
 
 // The last two values joined into one.
 fn join_last(values: &mut Values, height: usize, or: bool)
-    requires { ⌜ (length (now values) ≡ 256) × (2 ≤ height) × (height ≤ 16) ⌝ }
+    requires { ⌜ TwoValues (now values) height ⌝ }
     ensures { λ _. ⌜ JoinPut (joinMeaning or) (height - 2) (now (values .entry)) (now (values .exit)) ⌝ }
 {
     let first = (height - 2) * TABLE_WORDS;
@@ -277,12 +293,12 @@ fn after_node(
     values: &mut Values,
     height: usize,
 ) -> usize
-    requires { ⌜ (at < length (now words) / 4) × (end ≡ nodeEnd (now words) at) ⌝ }
+    requires { ⌜ NodeTo (now words) at end ⌝ }
     requires { ⌜ GroupUnderway (now words) group at (now values) height ⌝ }
     ensures { λ r. ⌜ GroupUnderway (now (words .entry)) group end (now (values .exit)) r ⌝ }
 {
-    let k = layout::kind_of(words[at * layout::RECORD_WORDS]);
-    match k {
+    let kind = layout::kind_of(words[at * layout::RECORD_WORDS]);
+    match kind {
         layout::Kind::Policy { quiet, turned } => {
             put_policy(words, at, end, quiet, turned, group, values, height);
             height + 1
@@ -303,9 +319,9 @@ fn after_node(
 
 // What a sound listing, which begins with so many pairs, says of each set of the group: in the first 16 of the values.
 pub fn reading(words: &[u32], pairs: usize, group: u32, values: &mut Values)
-    requires { ⌜ SoundWith (now words) pairs × (group ≤ 63) × (length (now values) ≡ 256) ⌝ }
-    ensures { λ _. ⌜ GroupOf (says (now (words .entry))) group (now (values .exit)) ⌝ }
-    ensures { λ _. ⌜ length (now (values .exit)) ≡ 256 ⌝ }
+    requires { ⌜ SoundGroup (now words) pairs group ⌝ }
+    requires { ⌜ SixteenTables (now values) ⌝ }
+    ensures { λ _. ⌜ GroupRead (now (words .entry)) group (now (values .exit)) ⌝ }
 {
     let mut height: usize = 0;
     let mut at = pairs;

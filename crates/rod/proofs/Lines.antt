@@ -15,9 +15,9 @@ use Rattle.layout.specs.Nodes.{ListedPolicy, leadingLines}
 use Rattle.layout.specs.Steps.{recordsFrom}
 use Rattle.layout.proofs.Runs.{leading-more, leading-end}
 use Rattle.rod.specs.Reading.{someLine, policyValue}
-use Rattle.rod.specs.Values.{lineAt, AllSets, LinesTo}
+use Rattle.rod.specs.Values.{maskAt, AllSets, LinesTo}
 
--- at index i of a run of lines that ends before index `end`: some line from `from` on lies inside the set where some line from here on does
+-- at index i of a run of lines up to `end`: some line from `from` on lies inside the set where one from here on does
 pub record Walk (ws : List ℕ) (from end set i : ℕ) : Type 0 where
   pub left : LinesTo ws i end
   pub same : someLine (leadingLines (recordsFrom ws i)) set ≡ someLine (leadingLines (recordsFrom ws from)) set
@@ -31,14 +31,14 @@ module _ {ws : List ℕ} {from end set i : ℕ} (w : Walk ws from end set i) whe
         past : length ws / 4 ≤ i → leadingLines (recordsFrom ws i) ≡ []
         past h = leading-end ws i h
 
-    first : leadingLines (recordsFrom ws i) ≡ lineAt ws i ∷ leadingLines (recordsFrom ws (i + 1))
+    first : leadingLines (recordsFrom ws i) ≡ maskAt ws i ∷ leadingLines (recordsFrom ws (i + 1))
     first = leading-more ws i within (omega (arith, w .left .run))
 
-    pub walk-here : (i < length ws / 4) × (lineAt ws i ≤ 65535)
+    pub walk-here : (i < length ws / 4) × (maskAt ws i ≤ 65535)
     walk-here = (within, subst AllSets first (w .left .sets) .0)
 
     -- by the test of this line
-    module _ (t : Bool) (told : t ≡ inside (lineAt ws i) set) where
+    module _ (t : Bool) (told : t ≡ inside (maskAt ws i) set) where
       pub walk-found : t ≡ true → true ≡ someLine (leadingLines (recordsFrom ws from)) set
       unfolding someLine
       walk-found e = rw (first, sym told ∙ e) refl ∙ w .same

@@ -20,7 +20,7 @@ use Rattle.layout.proofs.SoundNodes.{lines-fit, sound-well-formed}
 use Rattle.layout.proofs.Places.{from-cons, from-nil}
 use Rattle.layout.proofs.Runs.{pastLines, after-drop, after-no-line, after-nodes, after-next, after-judged, from-after, run-in-words, nodes-here}
 use Rattle.rod.specs.Reading.{policyValue, joined, says, rodAnswer}
-use Rattle.rod.specs.Values.{bitsOf, ValueAdded, LastJoined, AllSets, LinesTo, policyAt, nodeEnd, NodeAt, Underway}
+use Rattle.rod.specs.Values.{bitsOf, ValueAdded, LastJoined, AllSets, LinesTo, listedAt, nodeEnd, NodeTo, NodeAt, ReadingUnderway}
 use Rattle.rod.proofs.ValueLaws.{bits-below, one-value}
 
 all-sets : (mask : ℕ) (ls : List ℕ) → LinesFit mask ls → AllSets ls
@@ -83,10 +83,10 @@ module _ (ws : List ℕ) (at : ℕ) (lt : at < length ws / 4) (node : NodeAt ws 
       ∙ ap (λ (ns : List ListedNode). getD (run joined (policyValue set) ns stack) 0 false) (sym (nodes-here ws at k lt e))
 
   -- its lines are signal sets
-  pub policy-lines : (q t : Bool) → policy q t ≡ kindOf (getD ws (at * 4) 0) → (end : ℕ) → end ≡ nodeEnd ws at → LinesTo ws (at + 1) end
+  pub policy-lines : (quiet turned : Bool) → policy quiet turned ≡ kindOf (getD ws (at * 4) 0) → (end : ℕ) → end ≡ nodeEnd ws at → LinesTo ws (at + 1) end
   unfolding soFarAfter nodeEnd
-  policy-lines q t e end n =
-      record { run = n; sets = all-sets _ (leadingLines rest) (lines-fit (at + 1) (getD ws (at * 4 + 1) 0) _ rest refl (step (policy q t) e .1)) }
+  policy-lines quiet turned e end n =
+      record { run = n; sets = all-sets _ (leadingLines rest) (lines-fit (at + 1) (getD ws (at * 4 + 1) 0) _ rest refl (step (policy quiet turned) e .1)) }
 
   -- its `next` names the node after it, or is 0
   next-word : getD ws (at * 4 + 3) 0 ≡ ifAny (recordsFrom ws (nodeEnd ws at)) (nodeEnd ws at + 1)
@@ -96,8 +96,8 @@ module _ (ws : List ℕ) (at : ℕ) (lt : at < length ws / 4) (node : NodeAt ws 
       go : (k : Kind) → k ≡ kindOf (getD ws (at * 4) 0) → getD ws (at * 4 + 3) 0 ≡ ifAny (pastLines rest) (at + 1 + length (leadingLines rest) + 1)
       go line e = absurd (not-line e)
       go unknown e = absurd (not-unknown e)
-      go (policy q t) e =
-          kept-policy (at + 1) (node .above) (recordAt ws at) (kinds rest) q t (step (policy q t) e .0) .2
+      go (policy quiet turned) e =
+          kept-policy (at + 1) (node .above) (recordAt ws at) (kinds rest) quiet turned (step (policy quiet turned) e .0) .2
           ∙ after-next (at + 1 + 1) rest ∙ ap (λ (n : ℕ). ifAny (pastLines rest) n) (omega arith)
       go (Kind.join j) e =
           let none : leadingLines rest ≡ [] = no-owner (at + 1) _ rest refl (step (Kind.join j) e .1) in
@@ -136,66 +136,73 @@ unfolding recordsFrom noRecord
 first-node ws v = let j = sound-judged ws v .1 in record { above = noRecord; sound = j; noLine = no-owner 0 noRecord (records ws) refl j }
 
 -- before the first node there are no values
-pub begins : (ws : List ℕ) (set : ℕ) → verdict ws ≡ result tt → Underway ws set 0 0
+pub begins : (ws : List ℕ) (set : ℕ) → verdict ws ≡ result tt → ReadingUnderway ws set 0 0
 unfolding recordsFrom noRecord bitsOf says first-node
 begins ws set v =
     record { node = first-node ws v; stack = []; held = refl; height = refl; few = omega arith; atMost = omega arith; same = refl }
 
-module _ (ws : List ℕ) (set at values : ℕ) (lt : at < length ws / 4) (u : Underway ws set at values) where
+-- past a node that ends before index `end`
+module _ (ws : List ℕ) (set at end values : ℕ) (n : NodeTo ws at end) (u : ReadingUnderway ws set at values) where
   pub values-small : values ≤ 65535
   values-small = omega (arith, bits-below (u .stack) 16 (omega (arith, u .height, u .few, u .atMost)), u .held)
 
   same-here : (k : Kind) → k ≡ kindOf (getD ws (at * 4) 0)
       → getD (run joined (policyValue set) (nodeThen k (getD ws (at * 4 + 1) 0) (leadingLines (recordsFrom ws (at + 1))) (nodes (recordsFrom ws (nodeEnd ws at)))) (u .stack)) 0 false ≡ says ws set
-  same-here k e = taken-here ws at lt (u .node) set (u .stack) k e ∙ u .same
+  same-here k e = taken-here ws at (n .within) (u .node) set (u .stack) k e ∙ u .same
+
+  -- at the index that the code has
+  at-end : (r : ℕ) → ReadingUnderway ws set (nodeEnd ws at) r → ReadingUnderway ws set end r
+  at-end r v = subst (λ (x : ℕ). ReadingUnderway ws set x r) (sym (n .ends)) v
 
   -- a policy adds its value
-  pub past-policy : (q t : Bool) → policy q t ≡ kindOf (getD ws (at * 4) 0) → (v : Bool) (r : ℕ) → v ≡ policyValue set (policyAt ws at q t)
-      → ValueAdded v values r → Underway ws set (nodeEnd ws at) r
+  pub past-policy : (quiet turned : Bool) → policy quiet turned ≡ kindOf (getD ws (at * 4) 0) → (v : Bool) (r : ℕ) → v ≡ policyValue set (listedAt ws at quiet turned)
+      → ValueAdded v values r → ReadingUnderway ws set end r
   unfolding soFarAfter nodeThen run node-after
-  past-policy q t e v r ev er =
-      let k = kept-policy (at + 1) (u .node .above) (recordAt ws at) (kinds (recordsFrom ws (at + 1))) q t (step ws at lt (u .node) (policy q t) e .0) in
-      record {
-        node = node-after ws at lt (u .node) (policy q t) e;
+  past-policy quiet turned e v r ev er =
+      let k = kept-policy (at + 1) (u .node .above) (recordAt ws at) (kinds (recordsFrom ws (at + 1))) quiet turned (step ws at (n .within) (u .node) (policy quiet turned) e .0) in
+      at-end r
+      (record {
+        node = node-after ws at (n .within) (u .node) (policy quiet turned) e;
         stack = v ∷ u .stack;
         held = er (u .stack) (u .held);
         height = omega (arith, u .height);
         few = omega (arith, u .few);
         atMost = k .3;
-        same = ap (λ (x : Bool). getD (run joined (policyValue set) (nodes (recordsFrom ws (nodeEnd ws at))) (x ∷ u .stack)) 0 false) ev ∙ same-here (policy q t) e;
-      }
+        same = ap (λ (x : Bool). getD (run joined (policyValue set) (nodes (recordsFrom ws (nodeEnd ws at))) (x ∷ u .stack)) 0 false) ev ∙ same-here (policy quiet turned) e;
+      })
 
   -- an exclusion leaves the values as they are
-  pub past-exclusion : exclusion ≡ kindOf (getD ws (at * 4) 0) → Underway ws set (nodeEnd ws at) values
+  pub past-exclusion : exclusion ≡ kindOf (getD ws (at * 4) 0) → ReadingUnderway ws set end values
   unfolding soFarAfter nodeThen node-after
   past-exclusion e =
-      record {
-        node = node-after ws at lt (u .node) exclusion e;
+      at-end values
+      (record {
+        node = node-after ws at (n .within) (u .node) exclusion e;
         stack = u .stack;
         held = u .held;
         height = u .height;
         few = u .few;
         atMost = u .atMost;
         same = same-here exclusion e;
-      }
+      })
 
   -- a join takes two values and leaves one
   pub past-join : (j : Join) → Kind.join j ≡ kindOf (getD ws (at * 4) 0) → (r : ℕ)
-      → LastJoined j values r → Underway ws set (nodeEnd ws at) r
+      → LastJoined j values r → ReadingUnderway ws set end r
   unfolding soFarAfter nodeThen run joinedLast node-after
-  past-join j e r er = go (u .stack) (u .held) (u .height) (same-here (Kind.join j) e)
+  past-join j e r er = at-end r (go (u .stack) (u .held) (u .height) (same-here (Kind.join j) e))
     where
       two : 2 ≤ u .node .above .values
-      two = kept-join (at + 1) (u .node .above) (recordAt ws at) (kinds (recordsFrom ws (at + 1))) j (step ws at lt (u .node) (Kind.join j) e .0) .3
+      two = kept-join (at + 1) (u .node .above) (recordAt ws at) (kinds (recordsFrom ws (at + 1))) j (step ws at (n .within) (u .node) (Kind.join j) e .0) .3
 
       go : (st : List Bool) → values ≡ bitsOf st → u .node .above .values ≡ length st
           → getD (run joined (policyValue set) (nodeThen (Kind.join j) (getD ws (at * 4 + 1) 0) (leadingLines (recordsFrom ws (at + 1))) (nodes (recordsFrom ws (nodeEnd ws at)))) st) 0 false ≡ says ws set
-          → Underway ws set (nodeEnd ws at) r
+          → ReadingUnderway ws set (nodeEnd ws at) r
       go [] h l s = absurd (omega (arith, two))
       go (b ∷ []) h l s = absurd (omega (arith, two))
       go (b ∷ a ∷ st) h l s =
           record {
-            node = node-after ws at lt (u .node) (Kind.join j) e;
+            node = node-after ws at (n .within) (u .node) (Kind.join j) e;
             stack = joined j a b ∷ st;
             held = er a b st h;
             height = omega (arith, l, two);
@@ -204,12 +211,8 @@ module _ (ws : List ℕ) (set at values : ℕ) (lt : at < length ws / 4) (u : Un
             same = s;
           }
 
--- the same at the index that the code has
-pub at-end : (ws : List ℕ) (set at end values : ℕ) → end ≡ nodeEnd ws at → Underway ws set (nodeEnd ws at) values → Underway ws set end values
-at-end ws set at end values e u = subst (λ (x : ℕ). Underway ws set x values) (sym e) u
-
 -- after the last record one value remains
-pub ends : (ws : List ℕ) (set at values : ℕ) → length ws / 4 ≤ at → Underway ws set at values → eqb values 1 ≡ says ws set
+pub ends : (ws : List ℕ) (set at values : ℕ) → length ws / 4 ≤ at → ReadingUnderway ws set at values → eqb values 1 ≡ says ws set
 unfolding run nodes
 ends ws set at values h u = go (u .stack) (u .held) (u .height) (rw (from-nil ws at h) at (u .same))
   where

@@ -23,7 +23,7 @@ reading-tree t set =
     ap (λ (values : List Bool). getD values 0 false)
     (ap (λ (ns : List ListedNode). run joined (policyValue set) ns []) (sym (append-nil (postfix t))) ∙ run-tree joined (policyValue set) t [] [])
 
--- on the listing of a tree that fits, of at most 16 policies, whatever pairs are excluded, the rod never refuses and gives the tree's value
+-- on the listing of a tree that fits, with at most 16 policies and any pairs, the rod gives the tree's value
 pub rod-tree : (pairs : List ℕ) (t : ListedTree) (set : ℕ) → PairsFit pairs → TreeFits t → leafCount t ≤ 16
     → rodAnswer (words (listing pairs (postfix t))) set ≡ result (treeValue joined (policyValue set) t)
 unfolding rodAnswer says

@@ -15,7 +15,7 @@ use Rattle.layout.specs.Nodes.{ListedPolicy, nodes}
 unfoldable pub someLine : List ℕ → ℕ → Bool
 someLine lines set = exists (λ l. inside l set) lines
 
--- a policy whose mask shares no signal with the set gives quiet; otherwise yes if some line lies inside the set, turned over if turned
+-- quiet where the mask shares no signal with the set; otherwise yes if some line lies inside it, turned over if turned
 unfoldable pub policyValue : ℕ → ListedPolicy → Bool
 policyValue set p =
     cond (overlap (p .mask) set)

@@ -15,7 +15,8 @@ singleAnswer ws set = onResult (rodAnswer ws set) (λ yes. result (oneIf yes))
 
 pub record SingleCalls : Type 0 where
   -- where a traverse is answered, single calls on its sets refuse nothing, and theirs are the answers, in that order
-  pub answered : (ws sets lent answers : List ℕ) → traversed ws sets lent ≡ result answers → map (singleAnswer ws) sets ≡ map result answers
+  pub answered : (ws sets lent answers : List ℕ) → traversed ws sets lent ≡ result answers
+      → map (singleAnswer ws) sets ≡ map result answers
   -- with equally long slices, empty ones too, a traverse declines the listing exactly as a single call does on any set
   pub declined : (ws sets lent : List ℕ) (set number value : ℕ) → length sets ≡ length lent
       → (traversed ws sets lent ≡ refused number value) ↔ (rodAnswer ws set ≡ refused number value)

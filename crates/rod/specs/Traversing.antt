@@ -12,7 +12,7 @@ use Rattle.rod.specs.Reading.{says}
 unfoldable pub answersTo : List ℕ → List ℕ → List ℕ
 answersTo ws sets = map (λ set. oneIf (says ws set)) sets
 
--- 11 where the sets and the lent answers are not equally many, before the listing is examined; the listing's refusal; or the answers
+-- 11 where sets and lent answers are not equally many, before the listing is examined; its refusal; or the answers
 unfoldable pub traversed : (ws sets lent : List ℕ) → Answer (List ℕ)
 traversed ws sets lent = require (eqb (length sets) (length lent)) 11 0 (onResult (verdict ws) (λ u. result (answersTo ws sets)))
 

@@ -1,5 +1,5 @@
 -- The values as the code keeps them, and where it stands in a sound listing.
-use Prim.Native.Nat.{ℕ, _+_, _*_, _≤_}
+use Prim.Native.Nat.{ℕ, _+_, _*_, _/_, _≤_, _<_}
 use mathlib.Core.Bool.{Bool, true, false}
 use mathlib.Core.List.{List, [], _∷_}
 use mathlib.Core.Path.{_≡_}
@@ -10,7 +10,7 @@ use Rattle.arith.specs.Trees.{run}
 use Rattle.layout.specs.Records.{Join, and, or, oneIf}
 use Rattle.layout.specs.Judgement.{SoFar, judged}
 use Rattle.layout.specs.Nodes.{ListedPolicy, leadingLines, nodes}
-use Rattle.layout.specs.Steps.{recordsFrom}
+use Rattle.layout.specs.Steps.{recordAt, recordsFrom}
 use Rattle.rod.specs.Reading.{policyValue, joined, says}
 
 -- values as bits of a number, the last in the lowest bit
@@ -24,16 +24,17 @@ ValueAdded value before after = (s : List Bool) → before ≡ bitsOf s → afte
 
 -- the last two values joined into one
 abbrev pub LastJoined : Join → (before after : ℕ) → Type 0
-LastJoined j before after = (a b : Bool) (s : List Bool) → before ≡ bitsOf (b ∷ a ∷ s) → after ≡ bitsOf (joined j a b ∷ s)
+LastJoined j before after =
+    (a b : Bool) (s : List Bool) → before ≡ bitsOf (b ∷ a ∷ s) → after ≡ bitsOf (joined j a b ∷ s)
 
 -- a join, from the code's flag
 abbrev pub joinMeaning : Bool → Join
 joinMeaning true = or
 joinMeaning false = and
 
--- the set of a line at an index
-abbrev pub lineAt : List ℕ → ℕ → ℕ
-lineAt ws i = getD ws (i * 4 + 1) 0
+-- the mask of the record at an index: of a line, its set
+abbrev pub maskAt : List ℕ → ℕ → ℕ
+maskAt ws i = recordAt ws i .mask
 
 -- every number is a signal set
 abbrev pub AllSets : List ℕ → Type 0
@@ -45,12 +46,19 @@ pub record LinesTo (ws : List ℕ) (from end : ℕ) : Type 0 where
   pub sets : AllSets (leadingLines (recordsFrom ws from))
 
 -- the policy at an index, with its flags and the lines after it
-abbrev pub policyAt : List ℕ → ℕ → Bool → Bool → ListedPolicy
-policyAt ws at quiet turned = record { quiet = quiet; turned = turned; mask = getD ws (at * 4 + 1) 0; lines = leadingLines (recordsFrom ws (at + 1)) }
+abbrev pub listedAt : List ℕ → ℕ → Bool → Bool → ListedPolicy
+listedAt ws at quiet turned =
+    let lines = leadingLines (recordsFrom ws (at + 1)) in
+    record { quiet = quiet; turned = turned; mask = maskAt ws at; lines = lines }
 
 -- the index after a node and its lines
 unfoldable pub nodeEnd : List ℕ → ℕ → ℕ
 nodeEnd ws at = at + 1 + length (leadingLines (recordsFrom ws (at + 1)))
+
+-- the node at this index ends, with its lines, before index `end`
+pub record NodeTo (ws : List ℕ) (at end : ℕ) : Type 0 where
+  pub within : at < length ws / 4
+  pub ends : end ≡ nodeEnd ws at
 
 -- the records from this index on are judged sound, and begin with no line
 pub record NodeAt (ws : List ℕ) (at : ℕ) : Type 0 where
@@ -59,7 +67,7 @@ pub record NodeAt (ws : List ℕ) (at : ℕ) : Type 0 where
   pub noLine : leadingLines (recordsFrom ws at) ≡ []
 
 -- at this index, with these values, the nodes to come say what the whole listing says
-pub record Underway (ws : List ℕ) (set at values : ℕ) : Type 0 where
+pub record ReadingUnderway (ws : List ℕ) (set at values : ℕ) : Type 0 where
   pub node : NodeAt ws at
   pub stack : List Bool
   pub held : values ≡ bitsOf stack

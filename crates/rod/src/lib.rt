@@ -1,7 +1,7 @@
-// The rod: what a listing says of a signal set, or of each set of a traverse. It knows the listing part and nothing of books.
-// `decide` and `traverse` are for every caller; `reading` and `next_index` are for the crates above.
+// The rod: what a listing says of a signal set, or of each set of a traverse. It knows the listing part and nothing of
+// books. `decide` and `traverse` are for every caller; `reading` and `next_index` are for the crates above.
 ghost use mathlib.Core.Path.{_≡_};
-ghost use Prim.Native.Nat.{_+_, _*_, _/_, _≤_, _<_};
+ghost use Prim.Native.Nat.{_+_, _/_, _≤_, _<_};
 ghost use lib.ListN.{length};
 ghost use Rattle.answers.specs.Answers.{result};
 ghost use Rattle.signals.specs.Sets.{inside};
@@ -11,16 +11,20 @@ ghost use Rattle.layout.specs.Steps.{recordsFrom};
 ghost use Rattle.rod.specs.Reading.{someLine, policyValue, says, rodAnswer};
 ghost use Rattle.rod.specs.Traversing.{answersTo};
 ghost use Rattle.rod.specs.Meaning.{rodMeaning, TraverseRan};
-ghost use Rattle.rod.specs.Values.{ValueAdded, LastJoined, joinMeaning, lineAt, LinesTo, policyAt, nodeEnd, NodeAt, Underway};
+ghost use Rattle.rod.specs.Values.{ValueAdded, LastJoined, joinMeaning, maskAt, LinesTo, listedAt, nodeEnd, NodeTo, NodeAt, ReadingUnderway};
 
 // The line at index i, a signal set, lies wholly inside the set.
 fn is_inside(words: &[u32], i: usize, set: u16) -> bool
-    requires { ⌜ (i < length (now words) / 4) × (lineAt (now words) i ≤ 65535) ⌝ }
-    ensures { λ r. ⌜ r ≡ inside (lineAt (now (words .entry)) i) set ⌝ }
+    requires { ⌜ i < length (now words) / 4 ⌝ }
+    requires { ⌜ maskAt (now words) i ≤ 65535 ⌝ }
+    ensures { λ r. ⌜ r ≡ inside (maskAt (now (words .entry)) i) set ⌝ }
 {
     let line = words[i * layout::RECORD_WORDS + layout::MASK];
     line & set as u32 == line
 }
+
+// Lines are taken so many at a turn: the test of the end costs as much as a line's.
+const TURN_LINES: usize = 4;
 
 // Some line of the records from index `from` up to `end`, all of them lines, lies wholly inside the set.
 fn some_line(words: &[u32], from: usize, end: usize, set: u16) -> bool
@@ -28,8 +32,7 @@ fn some_line(words: &[u32], from: usize, end: usize, set: u16) -> bool
     ensures { λ r. ⌜ r ≡ someLine (leadingLines (recordsFrom (now (words .entry)) from)) set ⌝ }
 {
     let mut i = from;
-    // Four at a time: the test of the end costs as much as a line's.
-    while 4 <= end - i {
+    while TURN_LINES <= end - i {
         if is_inside(words, i, set) {
             return true;
         }
@@ -42,7 +45,7 @@ fn some_line(words: &[u32], from: usize, end: usize, set: u16) -> bool
         if is_inside(words, i + 3, set) {
             return true;
         }
-        i += 4;
+        i += TURN_LINES;
     }
     while i < end {
         if is_inside(words, i, set) {
@@ -55,8 +58,9 @@ fn some_line(words: &[u32], from: usize, end: usize, set: u16) -> bool
 
 // What the policy at index `at` says of the set; its lines end before index `end`.
 fn policy_value(words: &[u32], at: usize, end: usize, quiet: bool, turned: bool, set: u16) -> bool
-    requires { ⌜ (at < length (now words) / 4) × LinesTo (now words) (at + 1) end ⌝ }
-    ensures { λ r. ⌜ r ≡ policyValue set (policyAt (now (words .entry)) at quiet turned) ⌝ }
+    requires { ⌜ at < length (now words) / 4 ⌝ }
+    requires { ⌜ LinesTo (now words) (at + 1) end ⌝ }
+    ensures { λ r. ⌜ r ≡ policyValue set (listedAt (now (words .entry)) at quiet turned) ⌝ }
 {
     let mask = words[at * layout::RECORD_WORDS + layout::MASK];
     if mask & set as u32 != 0 {
@@ -90,7 +94,8 @@ fn with_join(values: u32, or: bool) -> u32
 
 // The index of the node after the one at index `at`: its `next` leads over its lines.
 pub fn next_index(words: &[u32], at: usize) -> usize
-    requires { ⌜ (at < length (now words) / 4) × NodeAt (now words) at ⌝ }
+    requires { ⌜ at < length (now words) / 4 ⌝ }
+    requires { ⌜ NodeAt (now words) at ⌝ }
     ensures { λ r. ⌜ r ≡ nodeEnd (now (words .entry)) at ⌝ }
 {
     let next = words[at * layout::RECORD_WORDS + layout::NEXT];
@@ -103,11 +108,12 @@ pub fn next_index(words: &[u32], at: usize) -> usize
 
 // The values after the node at index `at`.
 fn after_node(words: &[u32], at: usize, end: usize, set: u16, values: u32) -> u32
-    requires { ⌜ (at < length (now words) / 4) × (end ≡ nodeEnd (now words) at) × Underway (now words) set at values ⌝ }
-    ensures { λ r. ⌜ Underway (now (words .entry)) set end r ⌝ }
+    requires { ⌜ NodeTo (now words) at end ⌝ }
+    requires { ⌜ ReadingUnderway (now words) set at values ⌝ }
+    ensures { λ r. ⌜ ReadingUnderway (now (words .entry)) set end r ⌝ }
 {
-    let k = layout::kind_of(words[at * layout::RECORD_WORDS]);
-    match k {
+    let kind = layout::kind_of(words[at * layout::RECORD_WORDS]);
+    match kind {
         layout::Kind::Policy { quiet, turned } => {
             with_value(values, policy_value(words, at, end, quiet, turned, set))
         }
@@ -145,8 +151,8 @@ pub enum Decision {
 pub fn decide(words: &[u32], set: u16) -> Decision
     ensures { λ r. ⌜ rodMeaning r ≡ rodAnswer (now (words .entry)) set ⌝ }
 {
-    let v = layout::check(words);
-    match v {
+    let verdict = layout::check(words);
+    match verdict {
         layout::Verdict::Sound => {
             if reading(words, set) {
                 Decision::Yes
@@ -160,7 +166,8 @@ pub fn decide(words: &[u32], set: u16) -> Decision
 
 // Writes what the sound listing says of each set: 1 for yes, 0 for no.
 fn answer_all(words: &[u32], sets: &[u16], answers: &mut [u8])
-    requires { ⌜ (verdict (now words) ≡ result tt) × (length (now sets) ≡ length (now answers)) ⌝ }
+    requires { ⌜ verdict (now words) ≡ result tt ⌝ }
+    requires { ⌜ length (now sets) ≡ length (now answers) ⌝ }
     ensures { λ r. ⌜ now (answers .exit) ≡ answersTo (now (words .entry)) (now (sets .entry)) ⌝ }
 {
     let mut i: usize = 0;
@@ -190,8 +197,8 @@ pub fn traverse(words: &[u32], sets: &[u16], answers: &mut [u8]) -> Traversed
     if sets.len() != answers.len() {
         return Traversed::Unequal;
     }
-    let v = layout::check(words);
-    match v {
+    let verdict = layout::check(words);
+    match verdict {
         layout::Verdict::Sound => {
             answer_all(words, sets, answers);
             Traversed::Answered(sets.len())

@@ -6,10 +6,10 @@ use Rattle.blocks.proofs.block_overlap.Statement.{statement}
 use Rattle.blocks.proofs.block_overlap.Tie as tie
 
 returns : tie.Need-returns
-returns c = let p = c .before .pre in λ j h. p .2 j h ∙ sym (overlap-low _ _ j (p .0) (p .1) h (c .if1 .taken))
+returns c = let p = c .before .pre in λ j h. p .0 .told j h ∙ sym (overlap-low _ _ j (p .0 .set) (p .1) h (c .if1 .taken))
 
 returns-2 : tie.Need-returns-2
-returns-2 c = let p = c .before .pre in λ j h. present-all 64 j h ∙ sym (overlap-always _ _ j (p .0) (p .1) h (c .if1 .left))
+returns-2 c = let p = c .before .pre in λ j h. present-all 64 j h ∙ sym (overlap-always _ _ j (p .0 .set) (p .1) h (c .if1 .left))
 
 pub block-overlap-spec : {M : Type 1} → statement M
 block-overlap-spec = tie.close (tie.spec returns returns-2)

@@ -20,22 +20,15 @@ abbrev μ-loop : tie.MeasureT-loop
 loop-holds : tie.Need-loop-holds Inv-loop μ-loop
 loop-holds c = (omega arith, λ j h. present-none j)
 
-sharing-requires : tie.Need-sharing-requires Inv-loop μ-loop
-sharing-requires c κs = search needs
-
-add-signal : tie.Need-add-signal Inv-loop μ-loop
-add-signal c = search needs
-
-loop-less : tie.Need-loop-less Inv-loop μ-loop
-loop-less c = search needs
-
 loop-again : tie.Need-loop-again Inv-loop μ-loop
 loop-again c = (omega (arith, c .before .loop-test .taken), overlap-more _ _ _ _ (c .sharing .ensures) (c .before .before .loop .inv .1))
 
 returns : tie.Need-returns Inv-loop μ-loop
 returns c = let l = c .before .loop in overlap-done _ _ (l .signal) (c .before .before .pre) (omega (arith, l .inv .0, c .loop-test .left)) (l .inv .1)
 
+-- the other needs are found by search
 pub low-overlap-spec : {M : Type 1} → statement M
 low-overlap-spec =
     tie.close
-    (tie.spec Inv-loop μ-loop loop-holds sharing-requires add-signal loop-less loop-again returns)
+    (tie.spec Inv-loop μ-loop loop-holds (λ c κs. search needs) (λ c. search needs) (λ c. search needs) loop-again
+    returns)

@@ -12,20 +12,14 @@ use Rattle.blocks.proofs.spread.Tie as tie
 weighs : (c : tie.Start) → (1 * 2 ^ c .args .signal) % 2 ^ 32 ≡ 2 ^ c .args .signal
 weighs c = bit-is (c .args .signal) 32 (omega (arith, c .pre))
 
-shl-weight : tie.Need-shl-weight
-shl-weight c = search needs
-
-cast-result : tie.Need-cast-result
-cast-result c = search needs
-
 shl-result : tie.Need-shl-result
 shl-result c = omega (arith, weighs c, pow-lt {i = c .args .signal} {j = 6} (c .pre))
-
-having-requires : tie.Need-having-requires
-having-requires c κs = search needs
 
 returns : tie.Need-returns
 returns c = spread-word _ _ _ _ (weighs (c .before)) (c .having .ensures)
 
+-- the other needs are found by search
 pub spread-spec : {M : Type 1} → statement M
-spread-spec = tie.close (tie.spec shl-weight cast-result shl-result having-requires returns)
+spread-spec =
+    tie.close
+    (tie.spec (λ c. search needs) (λ c. search needs) shl-result (λ c κs. search needs) returns)

@@ -11,15 +11,6 @@ use Rattle.signals.proofs.BitLaws.{present-not, ones-shift}
 use Rattle.blocks.proofs.zeros_up_to.Statement.{statement}
 use Rattle.blocks.proofs.zeros_up_to.Tie as tie
 
-sub-result : tie.Need-sub-result
-sub-result c = search needs
-
-cast-result : tie.Need-cast-result
-cast-result c = search needs
-
-shl-result : tie.Need-shl-result
-shl-result c = search needs
-
 returns : tie.Need-returns
 returns c =
     let last = c .args .last in
@@ -29,5 +20,8 @@ returns c =
     ∙ ones-shift (last + 1) (63 - last) (2 ^ 64 - 1 - word)
     ∙ count-same _ (λ j. not (present word j)) (last + 1) (λ j l. present-not 64 word j (omega arith) (omega (arith, c .pre)))
 
+-- the other needs are found by search
 pub zeros-up-to-spec : {M : Type 1} → statement M
-zeros-up-to-spec = tie.close (tie.spec sub-result cast-result shl-result returns)
+zeros-up-to-spec =
+    tie.close
+    (tie.spec (λ c. search needs) (λ c. search needs) (λ c. search needs) returns)

@@ -5,12 +5,6 @@ use Rattle.checks.specs.Checks.{choiceOf}
 use Rattle.checks.proofs.answer.Statement.{statement}
 use Rattle.checks.proofs.answer.Tie as tie
 
-enum-known-other : tie.Need-enum-known-other
-enum-known-other c = search needs
-
-enum-told : tie.Need-enum-told
-enum-told c = search needs
-
 returns : tie.Need-returns
 unfolding choiceOf
 returns c = rw (c .if1 .taken, c .before .before .other .given .1) refl
@@ -27,5 +21,8 @@ returns-4 : tie.Need-returns-4
 unfolding choiceOf
 returns-4 c = rw (c .if2 .left, c .before .enum-told .given .1) refl
 
+-- the other needs are found by search
 pub answer-spec : {M : Type 1} → statement M
-answer-spec = tie.close (tie.spec enum-known-other enum-told returns returns-2 returns-3 returns-4)
+answer-spec =
+    tie.close
+    (tie.spec (λ c. search needs) (λ c. search needs) returns returns-2 returns-3 returns-4)

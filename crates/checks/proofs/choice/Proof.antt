@@ -6,17 +6,8 @@ use borrow.Author.Needs.{needs}
 use Rattle.checks.proofs.choice.Statement.{statement}
 use Rattle.checks.proofs.choice.Tie as tie
 
-check-requires : tie.Need-check-requires
-check-requires c κs = search needs
-
-enum-told : tie.Need-enum-told
-enum-told c = search needs
-
 sound-choice-requires : tie.Need-sound-choice-requires
 sound-choice-requires c κs = sym (c .before .before .check .ensures) ∙ ap verdictMeaning (c .enum-told .given .1)
-
-enum-known-v : tie.Need-enum-known-v
-enum-known-v c = search needs
 
 returns : tie.Need-returns
 returns c = c .sound-choice .ensures
@@ -24,9 +15,10 @@ returns c = c .sound-choice .ensures
 returns-2 : tie.Need-returns-2
 returns-2 c =
     let v = c .before in
-    choice-declined _ _ _ (sym (v .before .before .check .ensures) ∙ ap verdictMeaning (v .v .given .1))
+    choice-declined _ _ _ (sym (v .before .before .check .ensures) ∙ ap verdictMeaning (v .verdict .given .1))
 
+-- the other needs are found by search
 pub choice-spec : {M : Type 1} → statement M
 choice-spec =
     tie.close
-    (tie.spec check-requires enum-told sound-choice-requires enum-known-v returns returns-2)
+    (tie.spec (λ c κs. search needs) (λ c. search needs) sound-choice-requires (λ c. search needs) returns returns-2)

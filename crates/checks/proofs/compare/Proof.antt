@@ -12,26 +12,8 @@ use Rattle.checks.proofs.compare.Tie as tie
 good : (c : tie.After-enum-told) → verdict (c .before .before .before .before .before .args .one .now) ≡ result tt
 good c = sym (c .before .before .check .ensures) ∙ ap verdictMeaning (c .enum-told .given .1)
 
-check-requires : tie.Need-check-requires
-check-requires c κs = search needs
-
-enum-told : tie.Need-enum-told
-enum-told c = search needs
-
-check-requires-2 : tie.Need-check-requires-2
-check-requires-2 c κs = search needs
-
-enum-told-2 : tie.Need-enum-told-2
-enum-told-2 c = search needs
-
 sound-comparison-requires : tie.Need-sound-comparison-requires
 sound-comparison-requires c κs = (good (c .before .before .before), sym (c .before .before .check2 .ensures) ∙ ap verdictMeaning (c .enum-told2 .given .1))
-
-enum-known-w : tie.Need-enum-known-w
-enum-known-w c = search needs
-
-enum-known-v : tie.Need-enum-known-v
-enum-known-v c = search needs
 
 returns : tie.Need-returns
 returns c = c .sound-comparison .ensures
@@ -39,24 +21,16 @@ returns c = c .sound-comparison .ensures
 returns-2 : tie.Need-returns-2
 returns-2 c =
     let w = c .before in
-    second-declined _ _ (good (w .before .before .before)) _ _ (sym (w .before .before .check2 .ensures) ∙ ap verdictMeaning (w .w .given .1))
+    second-declined _ _ (good (w .before .before .before)) _ _ (sym (w .before .before .check2 .ensures) ∙ ap verdictMeaning (w .other .given .1))
 
 returns-3 : tie.Need-returns-3
 returns-3 c =
     let v = c .before in
-    first-declined _ _ _ _ (sym (v .before .before .check .ensures) ∙ ap verdictMeaning (v .v .given .1))
+    first-declined _ _ _ _ (sym (v .before .before .check .ensures) ∙ ap verdictMeaning (v .verdict .given .1))
 
+-- the other needs are found by search
 pub compare-spec : {M : Type 1} → statement M
 compare-spec =
     tie.close
-    (tie.spec
-    check-requires
-    enum-told
-    check-requires-2
-    enum-told-2
-    sound-comparison-requires
-    enum-known-w
-    enum-known-v
-    returns
-    returns-2
-    returns-3)
+    (tie.spec (λ c κs. search needs) (λ c. search needs) (λ c κs. search needs) (λ c. search needs)
+    sound-comparison-requires (λ c. search needs) (λ c. search needs) returns returns-2 returns-3)

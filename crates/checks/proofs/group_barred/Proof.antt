@@ -10,19 +10,19 @@ use Rattle.checks.proofs.group_barred.Statement.{statement}
 use Rattle.checks.proofs.group_barred.Tie as tie
 
 returns : tie.Need-returns
-returns c = let p = c .before .before .pre in barred-group _ (c .before .before .args .pairs) _ (replicate 16 0) (p .0) (none-inside _ 0 _ _ (omega (arith, c .if1 .taken)))
+returns c = let p = c .before .before .pre in barred-group _ (c .before .before .args .pairs) _ (replicate 16 0) (p .sound) (none-inside _ 0 _ _ (omega (arith, c .if1 .taken)))
 
 gather-requires : tie.Need-gather-requires
-gather-requires c κs = let p = c .before .before .before .pre in (refl, p .1, pair-masks _ _ (p .0))
-
-spread-requires : tie.Need-spread-requires
-spread-requires c κs = search needs
+gather-requires c κs = let p = c .before .before .before .pre in record { room = refl; within = p .within; masks = pair-masks _ _ (p .sound) }
 
 returns-2 : tie.Need-returns-2
 returns-2 c =
     let g = c .before .before in
     let p = g .before .before .before .before .pre in
-    barred-reached _ _ _ _ (p .0) (p .1) (c .spread .ensures _ _ (reached-none _ _ _ _ _ (g .gather .ensures)))
+    barred-reached _ _ _ _ (p .sound) (p .within) (c .spread .ensures _ _ (reached-none _ _ _ _ _ (g .gather .ensures)))
 
+-- the other needs are found by search
 pub group-barred-spec : {M : Type 1} → statement M
-group-barred-spec = tie.close (tie.spec returns gather-requires spread-requires returns-2)
+group-barred-spec =
+    tie.close
+    (tie.spec returns gather-requires (λ c κs. search needs) returns-2)

@@ -23,33 +23,6 @@ abbrev μ-loop : tie.MeasureT-loop
 loop-holds : tie.Need-loop-holds Inv-loop μ-loop
 loop-holds c = (omega arith, λ test h. none-yet test _)
 
-mul-apart-word : tie.Need-mul-apart-word Inv-loop μ-loop
-mul-apart-word c = search needs
-
-shared-slice-read-apart-word : tie.Need-shared-slice-read-apart-word Inv-loop μ-loop
-shared-slice-read-apart-word c = search needs
-
-mul-apart-word-2 : tie.Need-mul-apart-word-2 Inv-loop μ-loop
-mul-apart-word-2 c = search needs
-
-shared-slice-read-apart-word-2 : tie.Need-shared-slice-read-apart-word-2 Inv-loop μ-loop
-shared-slice-read-apart-word-2 c = search needs
-
-mul-apart-word-3 : tie.Need-mul-apart-word-3 Inv-loop μ-loop
-mul-apart-word-3 c = search needs
-
-shared-slice-read-apart-word-3 : tie.Need-shared-slice-read-apart-word-3 Inv-loop μ-loop
-shared-slice-read-apart-word-3 c = search needs
-
-mul-apart-word-4 : tie.Need-mul-apart-word-4 Inv-loop μ-loop
-mul-apart-word-4 c = search needs
-
-shared-slice-read-apart-word-4 : tie.Need-shared-slice-read-apart-word-4 Inv-loop μ-loop
-shared-slice-read-apart-word-4 c = search needs
-
-apart-word-requires : tie.Need-apart-word-requires Inv-loop μ-loop
-apart-word-requires c κs = search needs
-
 -- the word at hand
 told : (c : tie.After-apart-word Inv-loop μ-loop) (test : ℕ → Bool)
     → let l = c .before .before .before .before .before in let s = l .before .before .before .before .before .before in
@@ -57,29 +30,11 @@ told : (c : tie.After-apart-word Inv-loop μ-loop) (test : ℕ → Bool)
     → BlockOf test (16 * s .args .group + l .before .loop .k) (c .apart-word .result)
 told c test h j b = c .apart-word .ensures j b ∙ h _ (c .before .before .before .before .before .loop-test .taken) j b
 
-mul-lowest-in : tie.Need-mul-lowest-in Inv-loop μ-loop
-mul-lowest-in c = search needs
-
-cast-lowest-in : tie.Need-cast-lowest-in Inv-loop μ-loop
-cast-lowest-in c = search needs
-
-add-lowest-in : tie.Need-add-lowest-in Inv-loop μ-loop
-add-lowest-in c = search needs
-
-lowest-in-requires : tie.Need-lowest-in-requires Inv-loop μ-loop
-lowest-in-requires c κs = search needs
-
 returns : tie.Need-returns Inv-loop μ-loop
 returns c test h =
     let w = c .before .before in
     let l = w .before .before .before .before .before in
     in-block test _ _ (l .before .loop .inv .1 test h) (l .loop-test .taken) _ (c .lowest-in .ensures test (told w test h))
-
-add-k : tie.Need-add-k Inv-loop μ-loop
-add-k c = search needs
-
-loop-less : tie.Need-loop-less Inv-loop μ-loop
-loop-less c = search needs
 
 loop-again : tie.Need-loop-again Inv-loop μ-loop
 loop-again c =
@@ -90,28 +45,11 @@ loop-again c =
 returns-2 : tie.Need-returns-2 Inv-loop μ-loop
 returns-2 c test h = let l = c .before .loop in none-at-end test (64 * l .k) 1024 _ (omega (arith, l .inv .0, c .loop-test .left)) (l .inv .1 test h)
 
+-- the other needs are found by search
 pub lowest-apart-spec : {M : Type 1} → statement M
 lowest-apart-spec =
     tie.close
-    (tie.spec
-    Inv-loop
-    μ-loop
-    loop-holds
-    mul-apart-word
-    shared-slice-read-apart-word
-    mul-apart-word-2
-    shared-slice-read-apart-word-2
-    mul-apart-word-3
-    shared-slice-read-apart-word-3
-    mul-apart-word-4
-    shared-slice-read-apart-word-4
-    apart-word-requires
-    mul-lowest-in
-    cast-lowest-in
-    add-lowest-in
-    lowest-in-requires
-    returns
-    add-k
-    loop-less
-    loop-again
-    returns-2)
+    (tie.spec Inv-loop μ-loop loop-holds (λ c. search needs) (λ c. search needs) (λ c. search needs)
+    (λ c. search needs) (λ c. search needs) (λ c. search needs) (λ c. search needs) (λ c. search needs)
+    (λ c κs. search needs) (λ c. search needs) (λ c. search needs) (λ c. search needs) (λ c κs. search needs) returns
+    (λ c. search needs) (λ c. search needs) loop-again returns-2)

@@ -21,41 +21,8 @@ Inv-loop one two pairs others firsts₀ seconds₀ group₀ firsts seconds group
 abbrev μ-loop : tie.MeasureT-loop
 μ-loop one two pairs others firsts₀ seconds₀ group₀ firsts seconds group = 64 - group
 
-pair-count-requires : tie.Need-pair-count-requires Inv-loop μ-loop
-pair-count-requires c κs = search needs
-
-pair-count-requires-2 : tie.Need-pair-count-requires-2 Inv-loop μ-loop
-pair-count-requires-2 c κs = search needs
-
 loop-holds : tie.Need-loop-holds Inv-loop μ-loop
 loop-holds c = (omega arith, refl, refl, none-yet _ _)
-
-group-barred-requires : tie.Need-group-barred-requires Inv-loop μ-loop
-group-barred-requires c κs = search needs
-
-group-barred-requires-2 : tie.Need-group-barred-requires-2 Inv-loop μ-loop
-group-barred-requires-2 c κs = search needs
-
-reading-requires : tie.Need-reading-requires Inv-loop μ-loop
-reading-requires c κs = search needs
-
-reading-requires-2 : tie.Need-reading-requires-2 Inv-loop μ-loop
-reading-requires-2 c κs = search needs
-
-slice-aggregate-lowest-apart : tie.Need-slice-aggregate-lowest-apart Inv-loop μ-loop
-slice-aggregate-lowest-apart c = search needs
-
-slice-aggregate-lowest-apart-2 : tie.Need-slice-aggregate-lowest-apart-2 Inv-loop μ-loop
-slice-aggregate-lowest-apart-2 c = search needs
-
-slice-aggregate-lowest-apart-3 : tie.Need-slice-aggregate-lowest-apart-3 Inv-loop μ-loop
-slice-aggregate-lowest-apart-3 c = search needs
-
-slice-aggregate-lowest-apart-4 : tie.Need-slice-aggregate-lowest-apart-4 Inv-loop μ-loop
-slice-aggregate-lowest-apart-4 c = search needs
-
-lowest-apart-requires : tie.Need-lowest-apart-requires Inv-loop μ-loop
-lowest-apart-requires c κs = search needs
 
 -- what the readings left
 abbrev left : tie.After-reading Inv-loop μ-loop → List ℕ
@@ -73,13 +40,7 @@ told c =
     let r = c .before .before .before .before .before in
     let f = r .before .before in
     let b = f .before .before in
-    c .lowest-apart .ensures _ (differ-group _ _ _ (b .before .group-barred .result) (b .group-barred2 .result) (left f) (left₂ r) (b .before .group-barred .ensures) (b .group-barred2 .ensures) (f .reading .ensures .0) (r .reading2 .ensures .0))
-
-enum-told : tie.Need-enum-told Inv-loop μ-loop
-enum-told c = search needs
-
-enum-told-2 : tie.Need-enum-told-2 Inv-loop μ-loop
-enum-told-2 c = search needs
+    c .lowest-apart .ensures _ (differ-group _ _ _ (b .before .group-barred .result) (b .group-barred2 .result) (left f) (left₂ r) (b .before .group-barred .ensures) (b .group-barred2 .ensures) (f .reading .ensures .told) (r .reading2 .ensures .told))
 
 returns : tie.Need-returns Inv-loop μ-loop
 returns c =
@@ -88,48 +49,25 @@ returns c =
     let e = ap foundMeaning (c .enum-told2 .given .1) in
     e ∙ in-group _ _ (l .before .loop .inv .3) (omega (arith, l .loop-test .taken)) _ (sym (told w) ∙ e)
 
-add-group : tie.Need-add-group Inv-loop μ-loop
-add-group c = search needs
-
-loop-less : tie.Need-loop-less Inv-loop μ-loop
-loop-less c = search needs
-
 loop-again : tie.Need-loop-again Inv-loop μ-loop
 loop-again c =
     let w = c .before .before in
     let r = w .before .before .before .before .before in
     let l = r .before .before .before .before .before .before in (
       omega (arith, l .loop-test .taken),
-      r .before .before .reading .ensures .1,
-      r .reading2 .ensures .1,
+      r .before .before .reading .ensures .room,
+      r .reading2 .ensures .room,
       next-group _ _ (l .before .loop .inv .3) (sym (told w) ∙ ap foundMeaning (c .enum-told .given .1)),
     )
 
 returns-2 : tie.Need-returns-2 Inv-loop μ-loop
 returns-2 c = let l = c .before .loop in none-at-all _ _ (l .inv .3) (omega (arith, l .inv .0, c .loop-test .left))
 
+-- the other needs are found by search
 pub lowest-difference-spec : {M : Type 1} → statement M
 lowest-difference-spec =
     tie.close
-    (tie.spec
-    Inv-loop
-    μ-loop
-    pair-count-requires
-    pair-count-requires-2
-    loop-holds
-    group-barred-requires
-    group-barred-requires-2
-    reading-requires
-    reading-requires-2
-    slice-aggregate-lowest-apart
-    slice-aggregate-lowest-apart-2
-    slice-aggregate-lowest-apart-3
-    slice-aggregate-lowest-apart-4
-    lowest-apart-requires
-    enum-told
-    enum-told-2
-    returns
-    add-group
-    loop-less
-    loop-again
-    returns-2)
+    (tie.spec Inv-loop μ-loop (λ c κs. search needs) (λ c κs. search needs) loop-holds (λ c κs. search needs)
+    (λ c κs. search needs) (λ c κs. search needs) (λ c κs. search needs) (λ c. search needs) (λ c. search needs)
+    (λ c. search needs) (λ c. search needs) (λ c κs. search needs) (λ c. search needs) (λ c. search needs) returns
+    (λ c. search needs) (λ c. search needs) loop-again returns-2)

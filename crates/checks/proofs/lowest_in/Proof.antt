@@ -11,9 +11,6 @@ use Rattle.checks.proofs.lowest_in.Tie as tie
 below-64 : (c : tie.Start) → trailingZeros 64 (c .args .word) < 64
 below-64 c = lowest-bit 64 (c .args .word) (c .pre .1) (omega arith) .0
 
-mul-result : tie.Need-mul-result
-mul-result c = search needs
-
 add-result : tie.Need-add-result
 add-result c = omega (arith, below-64 c)
 
@@ -23,5 +20,8 @@ cast-result c = omega (arith, below-64 c)
 returns : tie.Need-returns
 returns c test w = block-here test _ _ w (c .pre .1) (omega arith)
 
+-- the other needs are found by search
 pub lowest-in-spec : {M : Type 1} → statement M
-lowest-in-spec = tie.close (tie.spec mul-result add-result cast-result returns)
+lowest-in-spec =
+    tie.close
+    (tie.spec (λ c. search needs) add-result cast-result returns)

@@ -21,9 +21,6 @@ Inv-loop barred pairs last count₀ k₀ count k =
 abbrev μ-loop : tie.MeasureT-loop
 μ-loop barred pairs last count₀ k₀ count k = last / 64 - k
 
-add-result : tie.Need-add-result Inv-loop μ-loop
-add-result c = search needs
-
 returns : tie.Need-returns Inv-loop μ-loop
 returns c test group all g = all-counted test (1024 * group) _ (all (omega (arith, c .if1 .taken)))
 
@@ -34,26 +31,8 @@ few c = subst (λ (n : ℕ). n ≤ 64) (sym (c .zeros-up-to .ensures)) (count-le
 loop-holds : tie.Need-loop-holds Inv-loop μ-loop
 loop-holds c = (omega arith, omega arith, λ test group g. ap (λ (n : ℕ). countBelow n test) (add-zero (1024 * group)) ∙ sym (add-zero _))
 
-cast-loop : tie.Need-cast-loop Inv-loop μ-loop
-cast-loop c = search needs
-
-mul-zeros-up-to : tie.Need-mul-zeros-up-to Inv-loop μ-loop
-mul-zeros-up-to c = search needs
-
-shared-slice-read-zeros-up-to : tie.Need-shared-slice-read-zeros-up-to Inv-loop μ-loop
-shared-slice-read-zeros-up-to c = search needs
-
-zeros-up-to-requires : tie.Need-zeros-up-to-requires Inv-loop μ-loop
-zeros-up-to-requires c κs = search needs
-
 add-count : tie.Need-add-count Inv-loop μ-loop
 add-count c = omega (arith, few c)
-
-add-k : tie.Need-add-k Inv-loop μ-loop
-add-k c = search needs
-
-loop-less : tie.Need-loop-less Inv-loop μ-loop
-loop-less c = search needs
 
 loop-again : tie.Need-loop-again Inv-loop μ-loop
 loop-again c =
@@ -63,15 +42,6 @@ loop-again c =
       omega (arith, few c),
       λ test group g. block-counted test group (now (s .args .barred)) g (l .before .loop .k) _ (l .before .loop .inv .2 test group g) (omega (arith, l .loop-test .taken, s .pre .0)) _ (c .zeros-up-to .ensures),
     )
-
-mul-zeros-up-to-2 : tie.Need-mul-zeros-up-to-2 Inv-loop μ-loop
-mul-zeros-up-to-2 c = search needs
-
-shared-slice-read-zeros-up-to-2 : tie.Need-shared-slice-read-zeros-up-to-2 Inv-loop μ-loop
-shared-slice-read-zeros-up-to-2 c = search needs
-
-zeros-up-to-requires-2 : tie.Need-zeros-up-to-requires-2 Inv-loop μ-loop
-zeros-up-to-requires-2 c κs = search needs
 
 add-result-2 : tie.Need-add-result-2 Inv-loop μ-loop
 add-result-2 c =
@@ -86,25 +56,10 @@ returns-2 c test group all g =
     let s = l .before .before .before .before in
     last-counted test group (now (s .args .barred)) g (l .before .loop .k) _ (l .before .loop .inv .2 test group g) (omega (arith, l .loop-test .left, s .pre .0, l .before .loop .inv .0)) _ _ (omega (arith, l .loop-test .left, l .before .loop .inv .0)) (c .zeros-up-to2 .ensures)
 
+-- the other needs are found by search
 pub permitted-up-to-spec : {M : Type 1} → statement M
 permitted-up-to-spec =
     tie.close
-    (tie.spec
-    Inv-loop
-    μ-loop
-    add-result
-    returns
-    loop-holds
-    cast-loop
-    mul-zeros-up-to
-    shared-slice-read-zeros-up-to
-    zeros-up-to-requires
-    add-count
-    add-k
-    loop-less
-    loop-again
-    mul-zeros-up-to-2
-    shared-slice-read-zeros-up-to-2
-    zeros-up-to-requires-2
-    add-result-2
-    returns-2)
+    (tie.spec Inv-loop μ-loop (λ c. search needs) returns loop-holds (λ c. search needs) (λ c. search needs)
+    (λ c. search needs) (λ c κs. search needs) add-count (λ c. search needs) (λ c. search needs) loop-again
+    (λ c. search needs) (λ c. search needs) (λ c κs. search needs) add-result-2 returns-2)

@@ -1,4 +1,4 @@
--- `checks::sound_choice`: no set of the groups before this one gives the other answer, and those without a pair are counted.
+-- `checks::sound_choice`: no set of the groups before gives the other answer, and those without a pair are counted.
 use Prim.Native.Nat.{ℕ, _+_, _-_, _*_, _%_, _≤_, _<_}
 use mathlib.Core.Bool.{true, not}
 use mathlib.Core.List.{List}
@@ -29,23 +29,8 @@ Inv-loop words pairs values₀ empty₀ judged₀ group₀ values empty judged g
 abbrev μ-loop : tie.MeasureT-loop
 μ-loop words pairs values₀ empty₀ judged₀ group₀ values empty judged group = 64 - group
 
-pair-count-requires : tie.Need-pair-count-requires Inv-loop μ-loop
-pair-count-requires c κs = search needs
-
 loop-holds : tie.Need-loop-holds Inv-loop μ-loop
 loop-holds c = (omega arith, refl, λ l. absurd (omega arith), none-yet _ _, sym (count-zero _))
-
-group-barred-requires : tie.Need-group-barred-requires Inv-loop μ-loop
-group-barred-requires c κs = search needs
-
-reading-requires : tie.Need-reading-requires Inv-loop μ-loop
-reading-requires c κs = search needs
-
-slice-aggregate-empty-gives : tie.Need-slice-aggregate-empty-gives Inv-loop μ-loop
-slice-aggregate-empty-gives c = search needs
-
-empty-gives-requires : tie.Need-empty-gives-requires Inv-loop μ-loop
-empty-gives-requires c κs = search needs
 
 -- what the reading left
 abbrev left : tie.After-reading Inv-loop μ-loop → List ℕ
@@ -69,25 +54,7 @@ all-permitted l = permitted-all _ _ (l .before .before .before .before .pre, l .
 empty-is : (c : tie.After-empty-gives Inv-loop μ-loop) → c .empty-gives .result ≡ says (wordsOf (turn c)) 0
 empty-is c =
     let r = c .before .before in
-    c .empty-gives .ensures ∙ empty-told _ _ (left r) _ (r .reading .ensures .0) (turn c .before .loop .inv .2)
-
-all-if-requires : tie.Need-all-if-requires Inv-loop μ-loop
-all-if-requires c κs = search needs
-
-slice-aggregate-lowest-apart : tie.Need-slice-aggregate-lowest-apart Inv-loop μ-loop
-slice-aggregate-lowest-apart c = search needs
-
-slice-aggregate-lowest-apart-2 : tie.Need-slice-aggregate-lowest-apart-2 Inv-loop μ-loop
-slice-aggregate-lowest-apart-2 c = search needs
-
-slice-aggregate-lowest-apart-3 : tie.Need-slice-aggregate-lowest-apart-3 Inv-loop μ-loop
-slice-aggregate-lowest-apart-3 c = search needs
-
-slice-aggregate-lowest-apart-4 : tie.Need-slice-aggregate-lowest-apart-4 Inv-loop μ-loop
-slice-aggregate-lowest-apart-4 c = search needs
-
-lowest-apart-requires : tie.Need-lowest-apart-requires Inv-loop μ-loop
-lowest-apart-requires c κs = search needs
+    c .empty-gives .ensures ∙ empty-told _ _ (left r) _ (r .reading .ensures .told) (turn c .before .loop .inv .2)
 
 -- where the empty set's answer was told
 abbrev given : tie.After-lowest-apart Inv-loop μ-loop → tie.After-empty-gives Inv-loop μ-loop
@@ -101,19 +68,7 @@ told c =
     let a = c .before .before .before .before .before in
     let r = given c .before .before in
     let b = r .before .before in
-    c .lowest-apart .ensures _ (other-group _ _ (empty-is (given c)) _ (b .group-barred .result) (left r) _ (b .group-barred .ensures) (r .reading .ensures .0) (a .all-if .ensures))
-
-enum-known-other : tie.Need-enum-known-other Inv-loop μ-loop
-enum-known-other c = search needs
-
-cast-last : tie.Need-cast-last Inv-loop μ-loop
-cast-last c = search needs
-
-slice-aggregate-permitted-up-to : tie.Need-slice-aggregate-permitted-up-to Inv-loop μ-loop
-slice-aggregate-permitted-up-to c = search needs
-
-permitted-up-to-requires : tie.Need-permitted-up-to-requires Inv-loop μ-loop
-permitted-up-to-requires c κs = search needs
+    c .lowest-apart .ensures _ (other-group _ _ (empty-is (given c)) _ (b .group-barred .result) (left r) _ (b .group-barred .ensures) (r .reading .ensures .told) (a .all-if .ensures))
 
 -- the set that was found
 abbrev found : tie.After-permitted-up-to Inv-loop μ-loop → tie.After-other Inv-loop μ-loop
@@ -142,9 +97,6 @@ judged-to c =
 add-answer : tie.Need-add-answer Inv-loop μ-loop
 add-answer c = omega (arith, judged-to c .1)
 
-answer-requires : tie.Need-answer-requires Inv-loop μ-loop
-answer-requires c κs = search needs
-
 returns : tie.Need-returns Inv-loop μ-loop
 returns c =
     let p = c .before in
@@ -154,18 +106,6 @@ returns c =
     let e = found-is o in
     c .answer .ensures
     ∙ chosen-by _ (l .before .before .before .before .pre) _ (empty-is g) (some (setOf o)) (in-group _ _ (l .before .loop .inv .3) (omega (arith, l .loop-test .taken)) _ e) _ (judged-to p .0)
-
-enum-told : tie.Need-enum-told Inv-loop μ-loop
-enum-told c = search needs
-
-slice-aggregate-permitted-up-to-2 : tie.Need-slice-aggregate-permitted-up-to-2 Inv-loop μ-loop
-slice-aggregate-permitted-up-to-2 c = search needs
-
-sub-permitted-up-to : tie.Need-sub-permitted-up-to Inv-loop μ-loop
-sub-permitted-up-to c = search needs
-
-permitted-up-to-requires-2 : tie.Need-permitted-up-to-requires-2 Inv-loop μ-loop
-permitted-up-to-requires-2 c κs = search needs
 
 -- the sets judged with the whole group
 judged-on : (c : tie.After-permitted-up-to2 Inv-loop μ-loop)
@@ -179,28 +119,16 @@ judged-on c =
 add-judged : tie.Need-add-judged Inv-loop μ-loop
 add-judged c = omega (arith, judged-on c .1, turn (given (c .before .before .before .before)) .loop-test .taken)
 
-add-group : tie.Need-add-group Inv-loop μ-loop
-add-group c = search needs
-
-loop-less : tie.Need-loop-less Inv-loop μ-loop
-loop-less c = search needs
-
 loop-again : tie.Need-loop-again Inv-loop μ-loop
 loop-again c =
     let w = c .before .before .before .before in
     let l = turn (given w) in (
       omega (arith, l .loop-test .taken),
-      given w .before .before .reading .ensures .1,
+      given w .before .before .reading .ensures .room,
       λ later. empty-is (given w),
       next-group _ _ (l .before .loop .inv .3) (sym (told w) ∙ ap foundMeaning (c .before .before .enum-told .given .1)),
-      judged-on c .0 ∙ ap (λ (n : ℕ). countBelow n (permitted (wordsOf l))) (next (groupOf l)),
+      judged-on c .0 ∙ ap (λ (n : ℕ). countBelow n (permitted (wordsOf l))) (omega arith),
     )
-  where
-    next : (g : ℕ) → 1024 * g + 1024 ≡ 1024 * (g + 1)
-    next g = omega arith
-
-answer-requires-2 : tie.Need-answer-requires-2 Inv-loop μ-loop
-answer-requires-2 c κs = search needs
 
 returns-2 : tie.Need-returns-2 Inv-loop μ-loop
 returns-2 c =
@@ -209,43 +137,15 @@ returns-2 c =
     let i = l .before .loop .inv in
     let last : l .before .loop .group ≡ 64 = omega (arith, i .0, l .loop-test .left) in
     c .answer2 .ensures
-    ∙ chosen-by _ (s .pre) _ (i .2 (omega (arith, last))) none (none-at-all _ _ (i .3) last) _ (i .4 ∙ ap (λ (n : ℕ). countBelow n (permitted (now (s .args .words)))) (whole last))
-  where
-    whole : {g : ℕ} → g ≡ 64 → 1024 * g ≡ 65536
-    whole e = omega arith
+    ∙ chosen-by _ (s .pre) _ (i .2 (omega (arith, last))) none (none-at-all _ _ (i .3) last) _ (i .4 ∙ ap (λ (n : ℕ). countBelow n (permitted (now (s .args .words)))) (omega (arith, last)))
 
+-- the other needs are found by search
 pub sound-choice-spec : {M : Type 1} → statement M
 sound-choice-spec =
     tie.close
-    (tie.spec
-    Inv-loop
-    μ-loop
-    pair-count-requires
-    loop-holds
-    group-barred-requires
-    reading-requires
-    slice-aggregate-empty-gives
-    empty-gives-requires
-    all-if-requires
-    slice-aggregate-lowest-apart
-    slice-aggregate-lowest-apart-2
-    slice-aggregate-lowest-apart-3
-    slice-aggregate-lowest-apart-4
-    lowest-apart-requires
-    enum-known-other
-    cast-last
-    slice-aggregate-permitted-up-to
-    permitted-up-to-requires
-    add-answer
-    answer-requires
-    returns
-    enum-told
-    slice-aggregate-permitted-up-to-2
-    sub-permitted-up-to
-    permitted-up-to-requires-2
-    add-judged
-    add-group
-    loop-less
-    loop-again
-    answer-requires-2
-    returns-2)
+    (tie.spec Inv-loop μ-loop (λ c κs. search needs) loop-holds (λ c κs. search needs) (λ c κs. search needs)
+    (λ c. search needs) (λ c κs. search needs) (λ c κs. search needs) (λ c. search needs) (λ c. search needs)
+    (λ c. search needs) (λ c. search needs) (λ c κs. search needs) (λ c. search needs) (λ c. search needs)
+    (λ c. search needs) (λ c κs. search needs) add-answer (λ c κs. search needs) returns (λ c. search needs)
+    (λ c. search needs) (λ c. search needs) (λ c κs. search needs) add-judged (λ c. search needs) (λ c. search needs)
+    loop-again (λ c κs. search needs) returns-2)

@@ -9,28 +9,22 @@ use Rattle.checks.proofs.sound_comparison.Tie as tie
 lowest-difference-requires : tie.Need-lowest-difference-requires
 lowest-difference-requires c κs = c .before .before .pre
 
-enum-known-f : tie.Need-enum-known-f
-enum-known-f c = search needs
-
 reading-requires : tie.Need-reading-requires
 reading-requires c κs = c .before .before .before .before .before .before .pre .0
-
-enum-told : tie.Need-enum-told
-enum-told c = search needs
 
 returns : tie.Need-returns
 returns c =
     let f = c .before .before .before in
     let l = f .before .before in
     let p = l .before .before .before .pre in
-    differ-first _ _ (p .0) (p .1) _ (sym (l .lowest-difference .ensures) ∙ ap foundMeaning (f .f .given .1)) (sym (c .if1 .taken) ∙ c .before .reading .ensures)
+    differ-first _ _ (p .0) (p .1) _ (sym (l .lowest-difference .ensures) ∙ ap foundMeaning (f .found .given .1)) (sym (c .if1 .taken) ∙ c .before .reading .ensures)
 
 returns-2 : tie.Need-returns-2
 returns-2 c =
     let f = c .before .before .before in
     let l = f .before .before in
     let p = l .before .before .before .pre in
-    differ-second _ _ (p .0) (p .1) _ (sym (l .lowest-difference .ensures) ∙ ap foundMeaning (f .f .given .1)) (sym (c .if1 .left) ∙ c .before .reading .ensures)
+    differ-second _ _ (p .0) (p .1) _ (sym (l .lowest-difference .ensures) ∙ ap foundMeaning (f .found .given .1)) (sym (c .if1 .left) ∙ c .before .reading .ensures)
 
 returns-3 : tie.Need-returns-3
 returns-3 c =
@@ -38,14 +32,9 @@ returns-3 c =
     let p = l .before .before .before .pre in
     alike-all _ _ (p .0) (p .1) (sym (l .lowest-difference .ensures) ∙ ap foundMeaning (c .enum-told .given .1))
 
+-- the other needs are found by search
 pub sound-comparison-spec : {M : Type 1} → statement M
 sound-comparison-spec =
     tie.close
-    (tie.spec
-    lowest-difference-requires
-    enum-known-f
-    reading-requires
-    enum-told
-    returns
-    returns-2
+    (tie.spec lowest-difference-requires (λ c. search needs) reading-requires (λ c. search needs) returns returns-2
     returns-3)

@@ -9,30 +9,6 @@ use Rattle.groups.proofs.AddedLaws.{mask-added, mask-left}
 use Rattle.groups.proofs.add_mask.Statement.{statement}
 use Rattle.groups.proofs.add_mask.Tie as tie
 
-is-within-requires : tie.Need-is-within-requires
-is-within-requires c κs = search needs
-
-cast-bit : tie.Need-cast-bit
-cast-bit c = search needs
-
-shl-bit : tie.Need-shl-bit
-shl-bit c = search needs
-
-cast-k : tie.Need-cast-k
-cast-k c = search needs
-
-mul-table : tie.Need-mul-table
-mul-table c = search needs
-
-element-copy-out-table : tie.Need-element-copy-out-table
-element-copy-out-table c = search needs
-
-mul-table-2 : tie.Need-mul-table-2
-mul-table-2 c = search needs
-
-element-write-table : tie.Need-element-write-table
-element-write-table c = search needs
-
 returns : tie.Need-returns
 returns c =
     let w = c .before .before in
@@ -42,17 +18,9 @@ returns c =
 returns-2 : tie.Need-returns-2
 returns-2 c = let w = c .before in mask-left _ _ _ (w .before .pre .0) (sym (w .is-within .ensures) ∙ c .if1 .left)
 
+-- the other needs are found by search
 pub add-mask-spec : {M : Type 1} → statement M
 add-mask-spec =
     tie.close
-    (tie.spec
-    is-within-requires
-    cast-bit
-    shl-bit
-    cast-k
-    mul-table
-    element-copy-out-table
-    mul-table-2
-    element-write-table
-    returns
-    returns-2)
+    (tie.spec (λ c κs. search needs) (λ c. search needs) (λ c. search needs) (λ c. search needs) (λ c. search needs)
+    (λ c. search needs) (λ c. search needs) (λ c. search needs) returns returns-2)

@@ -1,153 +1,83 @@
 -- `groups::after_node`: each kind of node by the law for it; a line or an unknown kind does not stand there.
-use mathlib.Core.Path.{sym, ap, _∙_}
+use Prim.Native.Nat.{_*_}
+use mathlib.Core.Path.{_≡_, sym, ap, _∙_}
 use native.Mathlib.Omega.{arith}
-use Rattle.layout.specs.Records.{and, or}
+use denote.Ref.{now}
+use lib.ListN.{getD}
+use Rattle.layout.specs.Records.{and, or, kindOf}
 use Rattle.layout.specs.Steps.{kindMeaning}
+use Rattle.layout.specs.declared.records.Kind.{Kind}
 use Rattle.rod.proofs.Steps.{not-line, not-unknown}
-use Rattle.groups.proofs.GroupSteps.{policy-here, policy-room, past-group-policy, two-values, values-room, past-group-join, past-group-exclusion, group-at-end}
+use Rattle.groups.proofs.GroupSteps.{policy-here, policy-room, past-group-policy, two-values, past-group-join, past-group-exclusion}
 use borrow.Author.Needs.{needs}
 use Rattle.groups.proofs.after_node.Statement.{statement}
 use Rattle.groups.proofs.after_node.Tie as tie
 
-mul-kind-of : tie.Need-mul-kind-of
-mul-kind-of c = search needs
+-- where the function begins
+abbrev start : tie.After-kind-of → tie.Start
+start m = m .before .before .before
 
-mul-kind-of-2 : tie.Need-mul-kind-of-2
-mul-kind-of-2 c = search needs
-
-shared-slice-read-kind-of : tie.Need-shared-slice-read-kind-of
-shared-slice-read-kind-of c = search needs
-
-kind-of-requires : tie.Need-kind-of-requires
-kind-of-requires c κs = search needs
-
-enum-known-k : tie.Need-enum-known-k
-enum-known-k c = search needs
+-- the kind of an arm is that of the record
+is-kind : (m : tie.After-kind-of) (k : Kind) → m .kind-of .result ≡ k
+    → let a = start m .args in kindMeaning k ≡ kindOf (getD (now (a .words)) (a .at * 4) 0)
+is-kind m k e = sym (ap kindMeaning e) ∙ m .kind-of .ensures
 
 put-policy-requires : tie.Need-put-policy-requires
 put-policy-requires c κs =
     let p = c .before .before in
     let m = p .before .before in
-    let s = m .before .before .before in
-    let u = s .pre .1 in
-    let e = sym (ap kindMeaning (p .k .given .1)) ∙ m .kind-of .ensures in
-    (u .room, policy-room _ _ _ _ _ (s .pre .0 .0) u _ _ e, u .within, policy-here _ _ _ _ _ (s .pre .0 .0) u _ _ e _ (s .pre .0 .1))
-
-add-result : tie.Need-add-result
-add-result c = search needs
-
-enum-told : tie.Need-enum-told
-enum-told c = search needs
+    let e = is-kind m _ (p .kind .given .1) in
+    (policy-room _ _ _ _ _ _ (start m .pre .0) (start m .pre .1) _ _ e, (policy-here _ _ _ _ _ _ (start m .pre .0) (start m .pre .1) _ _ e, start m .pre .1 .within))
 
 join-last-requires : tie.Need-join-last-requires
 join-last-requires c κs =
-    let k = c .before in
-    let m = k .before .before in
-    let s = m .before .before .before in
-    let u = s .pre .1 in
-    let e = sym (ap kindMeaning (k .enum-told .given .1)) ∙ m .kind-of .ensures in
-    (u .room, two-values _ _ _ _ _ (s .pre .0 .0) u and e, values-room _ _ _ _ _ (s .pre .0 .0) u and e)
+    let m = c .before .before .before in
+    two-values _ _ _ _ _ _ (start m .pre .0) (start m .pre .1) and (is-kind m _ (c .before .enum-told .given .1))
 
 sub-result : tie.Need-sub-result
 sub-result c =
-    let k = c .before .before in
-    let m = k .before .before in
-    let s = m .before .before .before in
-    omega (arith, two-values _ _ _ _ _ (s .pre .0 .0) (s .pre .1) and (sym (ap kindMeaning (k .enum-told .given .1)) ∙ m .kind-of .ensures))
-
-enum-told-2 : tie.Need-enum-told-2
-enum-told-2 c = search needs
+    let m = c .before .before .before .before in
+    omega (arith, two-values _ _ _ _ _ _ (start m .pre .0) (start m .pre .1) and (is-kind m _ (c .before .before .enum-told .given .1)) .least)
 
 join-last-requires-2 : tie.Need-join-last-requires-2
 join-last-requires-2 c κs =
-    let k = c .before in
-    let m = k .before .before in
-    let s = m .before .before .before in
-    let u = s .pre .1 in
-    let e = sym (ap kindMeaning (k .enum-told2 .given .1)) ∙ m .kind-of .ensures in
-    (u .room, two-values _ _ _ _ _ (s .pre .0 .0) u or e, values-room _ _ _ _ _ (s .pre .0 .0) u or e)
+    let m = c .before .before .before in
+    two-values _ _ _ _ _ _ (start m .pre .0) (start m .pre .1) or (is-kind m _ (c .before .enum-told2 .given .1))
 
 sub-result-2 : tie.Need-sub-result-2
 sub-result-2 c =
-    let k = c .before .before in
-    let m = k .before .before in
-    let s = m .before .before .before in
-    omega (arith, two-values _ _ _ _ _ (s .pre .0 .0) (s .pre .1) or (sym (ap kindMeaning (k .enum-told2 .given .1)) ∙ m .kind-of .ensures))
-
-enum-told-3 : tie.Need-enum-told-3
-enum-told-3 c = search needs
-
-enum-told-4 : tie.Need-enum-told-4
-enum-told-4 c = search needs
-
-enum-told-5 : tie.Need-enum-told-5
-enum-told-5 c = search needs
+    let m = c .before .before .before .before in
+    omega (arith, two-values _ _ _ _ _ _ (start m .pre .0) (start m .pre .1) or (is-kind m _ (c .before .before .enum-told2 .given .1)) .least)
 
 returns : tie.Need-returns
 returns c =
-    let p = c .before .before .before in
-    let m = p .before .before in
-    let s = m .before .before .before in
-    group-at-end _ _ _ _ _ _ (s .pre .0 .1)
-    (past-group-policy _ _ _ _ _ (s .pre .0 .0) (s .pre .1) _ _ (sym (ap kindMeaning (p .k .given .1)) ∙ m .kind-of .ensures) _ (c .put-policy .ensures))
+    let m = c .before .before .before .before .before in
+    past-group-policy _ _ _ _ _ _ (start m .pre .0) (start m .pre .1) _ _ (is-kind m _ (c .before .before .before .kind .given .1)) _ (c .put-policy .ensures)
 
 returns-2 : tie.Need-returns-2
 returns-2 c =
-    let k = c .before .before in
-    let m = k .before .before in
-    let s = m .before .before .before in
-    group-at-end _ _ _ _ _ _ (s .pre .0 .1)
-    (past-group-join _ _ _ _ _ (s .pre .0 .0) (s .pre .1) and (sym (ap kindMeaning (k .enum-told .given .1)) ∙ m .kind-of .ensures) _ (c .join-last .ensures))
+    let m = c .before .before .before .before in
+    past-group-join _ _ _ _ _ _ (start m .pre .0) (start m .pre .1) and (is-kind m _ (c .before .before .enum-told .given .1)) _ (c .join-last .ensures)
 
 returns-3 : tie.Need-returns-3
 returns-3 c =
-    let k = c .before .before in
-    let m = k .before .before in
-    let s = m .before .before .before in
-    group-at-end _ _ _ _ _ _ (s .pre .0 .1)
-    (past-group-join _ _ _ _ _ (s .pre .0 .0) (s .pre .1) or (sym (ap kindMeaning (k .enum-told2 .given .1)) ∙ m .kind-of .ensures) _ (c .join-last2 .ensures))
+    let m = c .before .before .before .before in
+    past-group-join _ _ _ _ _ _ (start m .pre .0) (start m .pre .1) or (is-kind m _ (c .before .before .enum-told2 .given .1)) _ (c .join-last2 .ensures)
 
 returns-4 : tie.Need-returns-4
-returns-4 c =
-    let m = c .before .before in
-    let s = m .before .before .before in
-    absurd (not-line _ _ (s .pre .0 .0) (s .pre .1 .node) (sym (ap kindMeaning (c .enum-told3 .given .1)) ∙ m .kind-of .ensures))
+returns-4 c = let m = c .before .before in absurd (not-line _ _ (start m .pre .0 .within) (start m .pre .1 .node) (is-kind m _ (c .enum-told3 .given .1)))
 
 returns-5 : tie.Need-returns-5
-returns-5 c =
-    let m = c .before .before in
-    let s = m .before .before .before in
-    absurd (not-unknown _ _ (s .pre .0 .0) (s .pre .1 .node) (sym (ap kindMeaning (c .enum-told4 .given .1)) ∙ m .kind-of .ensures))
+returns-5 c = let m = c .before .before in absurd (not-unknown _ _ (start m .pre .0 .within) (start m .pre .1 .node) (is-kind m _ (c .enum-told4 .given .1)))
 
 returns-6 : tie.Need-returns-6
-returns-6 c =
-    let m = c .before .before in
-    let s = m .before .before .before in
-    group-at-end _ _ _ _ _ _ (s .pre .0 .1) (past-group-exclusion _ _ _ _ _ (s .pre .0 .0) (s .pre .1) (sym (ap kindMeaning (c .enum-told5 .given .1)) ∙ m .kind-of .ensures))
+returns-6 c = let m = c .before .before in past-group-exclusion _ _ _ _ _ _ (start m .pre .0) (start m .pre .1) (is-kind m _ (c .enum-told5 .given .1))
 
+-- the other needs are found by search
 pub after-node-spec : {M : Type 1} → statement M
 after-node-spec =
     tie.close
-    (tie.spec
-    mul-kind-of
-    mul-kind-of-2
-    shared-slice-read-kind-of
-    kind-of-requires
-    enum-known-k
-    put-policy-requires
-    add-result
-    enum-told
-    join-last-requires
-    sub-result
-    enum-told-2
-    join-last-requires-2
-    sub-result-2
-    enum-told-3
-    enum-told-4
-    enum-told-5
-    returns
-    returns-2
-    returns-3
-    returns-4
-    returns-5
-    returns-6)
+    (tie.spec (λ c. search needs) (λ c. search needs) (λ c. search needs) (λ c κs. search needs) (λ c. search needs)
+    put-policy-requires (λ c. search needs) (λ c. search needs) join-last-requires sub-result (λ c. search needs)
+    join-last-requires-2 sub-result-2 (λ c. search needs) (λ c. search needs) (λ c. search needs) returns returns-2
+    returns-3 returns-4 returns-5 returns-6)

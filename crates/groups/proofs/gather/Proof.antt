@@ -5,31 +5,27 @@ use Rattle.groups.proofs.GatheredLaws.{masks-front, masks-rest, gathere
 use Rattle.groups.proofs.gather.Statement.{statement}
 use Rattle.groups.proofs.gather.Tie as tie
 
-sub-rest : tie.Need-sub-rest
-sub-rest c = search needs
-
-sub-rest-2 : tie.Need-sub-rest-2
-sub-rest-2 c = search needs
-
 gather-fours-requires : tie.Need-gather-fours-requires
 gather-fours-requires c κs =
     let p = c .before .before .pre in
-    let m = p .2 in
-    (p .0, p .1, masks-front _ _ _ _ (omega (arith, m .ordered)) (omega arith) m, omega (arith, m .ordered))
+    let m = p .masks in
+    (record { room = p .room; within = p .within; masks = masks-front _ _ _ _ (omega (arith, m .ordered)) (omega arith) m }, omega (arith, m .ordered))
 
 gather-rest-requires : tie.Need-gather-rest-requires
 gather-rest-requires c κs =
     let f = c .before in
     let p = f .before .before .before .pre in
-    let m = p .2 in
-    (f .gather-fours .ensures .room, p .1, masks-rest _ _ _ _ (omega (arith, m .ordered)) (omega arith) m)
+    let m = p .masks in
+    record { room = f .gather-fours .ensures .room; within = p .within; masks = masks-rest _ _ _ _ (omega (arith, m .ordered)) (omega arith) m }
 
 returns : tie.Need-returns
 returns c =
     let f = c .before .before in
-    let m = f .before .before .before .pre .2 in
+    let m = f .before .before .before .pre .masks in
     gathered-both _ _ _ _ (omega (arith, m .ordered)) (omega arith) _ _ _ _ (f .gather-fours .ensures) (c .gather-rest .ensures)
 
+-- the other needs are found by search
 pub gather-spec : {M : Type 1} → statement M
 gather-spec =
-    tie.close (tie.spec sub-rest sub-rest-2 gather-fours-requires gather-rest-requires returns)
+    tie.close
+    (tie.spec (λ c. search needs) (λ c. search needs) gather-fours-requires gather-rest-requires returns)

@@ -15,7 +15,7 @@ abbrev μ-loop : tie.MeasureT-loop
 μ-loop words from end group table₀ i₀ table i = end - i
 
 loop-holds : tie.Need-loop-holds Inv-loop μ-loop
-loop-holds c = let p = c .before .pre in gathered-none _ _ _ _ _ (p .0) (p .2)
+loop-holds c = let p = c .before .pre in gathered-none _ _ _ _ _ (p .room) (p .masks)
 
 -- the record at hand
 here : (c : tie.In-loop Inv-loop μ-loop) → c .before .loop .i < length (now (c .before .before .before .args .words)) / 4
@@ -34,13 +34,7 @@ shared-slice-read-add-mask : tie.Need-shared-slice-read-add-mask Inv-loop μ-loo
 shared-slice-read-add-mask c = omega (arith, here (c .before .before))
 
 add-mask-requires : tie.Need-add-mask-requires Inv-loop μ-loop
-add-mask-requires c κs = let t = c .before .before in let g = t .before .loop .inv in (g .room, mask-set (g .more) (t .loop-test .taken), t .before .before .before .pre .1)
-
-add-i : tie.Need-add-i Inv-loop μ-loop
-add-i c = search needs
-
-loop-less : tie.Need-loop-less Inv-loop μ-loop
-loop-less c = search needs
+add-mask-requires c κs = let t = c .before .before in let g = t .before .loop .inv in (g .room, record { set = mask-set (g .more) (t .loop-test .taken); within = t .before .before .before .pre .within })
 
 loop-again : tie.Need-loop-again Inv-loop μ-loop
 loop-again c = let t = c .before .before .before in gathered-more (t .before .loop .inv) (t .loop-test .taken) _ (c .add-mask .ensures)
@@ -48,19 +42,9 @@ loop-again c = let t = c .before .before .before in gathered-more (t .before .lo
 returns : tie.Need-returns Inv-loop μ-loop
 returns c = gathered-all (c .before .loop .inv) (c .loop-test .left)
 
+-- the other needs are found by search
 pub gather-rest-spec : {M : Type 1} → statement M
 gather-rest-spec =
     tie.close
-    (tie.spec
-    Inv-loop
-    μ-loop
-    loop-holds
-    mul-add-mask
-    add-add-mask
-    mul-add-mask-2
-    shared-slice-read-add-mask
-    add-mask-requires
-    add-i
-    loop-less
-    loop-again
-    returns)
+    (tie.spec Inv-loop μ-loop loop-holds mul-add-mask add-add-mask mul-add-mask-2 shared-slice-read-add-mask
+    add-mask-requires (λ c. search needs) (λ c. search needs) loop-again returns)

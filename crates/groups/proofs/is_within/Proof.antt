@@ -4,14 +4,11 @@ use Rattle.groups.proofs.AddedLaws.{within-test}
 use Rattle.groups.proofs.is_within.Statement.{statement}
 use Rattle.groups.proofs.is_within.Tie as tie
 
-sub-result : tie.Need-sub-result
-sub-result c = search needs
-
-mul-result : tie.Need-mul-result
-mul-result c = search needs
-
 returns : tie.Need-returns
-returns c = within-test _ _ (c .pre .0) (c .pre .1)
+returns c = within-test _ _ (c .pre .set) (c .pre .within)
 
+-- the other needs are found by search
 pub is-within-spec : {M : Type 1} → statement M
-is-within-spec = tie.close (tie.spec sub-result mul-result returns)
+is-within-spec =
+    tie.close
+    (tie.spec (λ c. search needs) (λ c. search needs) returns)

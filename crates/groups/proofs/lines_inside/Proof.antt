@@ -8,7 +8,7 @@ returns : tie.Need-returns
 returns c = none-inside _ _ _ _ (c .if1 .taken)
 
 gather-requires : tie.Need-gather-requires
-gather-requires c κs = let p = c .before .before .before .pre in (refl, p .0, p .1)
+gather-requires c κs = let p = c .before .before .before .pre in record { room = refl; within = p .0; masks = p .1 }
 
 spread-requires : tie.Need-spread-requires
 spread-requires c κs = c .before .gather .ensures .room

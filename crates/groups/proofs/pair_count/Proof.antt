@@ -22,27 +22,12 @@ loop-holds : tie.Need-loop-holds Inv-loop μ-loop
 unfolding recordsFrom
 loop-holds c = (omega arith, omega arith)
 
-mul-if1 : tie.Need-mul-if1 Inv-loop μ-loop
-mul-if1 c = search needs
-
-mul-if1-2 : tie.Need-mul-if1-2 Inv-loop μ-loop
-mul-if1-2 c = search needs
-
-shared-slice-read-if1 : tie.Need-shared-slice-read-if1 Inv-loop μ-loop
-shared-slice-read-if1 c = search needs
-
 returns : tie.Need-returns Inv-loop μ-loop
 returns c =
     let l = c .before .before in
     let at = l .before .loop in
     let ws = now (l .before .before .args .words) in
     omega (arith, at .inv .1, ap length (no-pair-here ws (at .i) (omega (arith, l .loop-test .taken)) (c .if1 .taken)))
-
-add-i : tie.Need-add-i Inv-loop μ-loop
-add-i c = search needs
-
-loop-less : tie.Need-loop-less Inv-loop μ-loop
-loop-less c = search needs
 
 loop-again : tie.Need-loop-again Inv-loop μ-loop
 loop-again c =
@@ -58,18 +43,9 @@ returns-2 c =
     let at = c .before .loop in
     omega (arith, at .inv .1, ap length (no-pair-left (now (c .before .before .args .words)) (at .i) (c .loop-test .left)))
 
+-- the other needs are found by search
 pub pair-count-spec : {M : Type 1} → statement M
 pair-count-spec =
     tie.close
-    (tie.spec
-    Inv-loop
-    μ-loop
-    loop-holds
-    mul-if1
-    mul-if1-2
-    shared-slice-read-if1
-    returns
-    add-i
-    loop-less
-    loop-again
-    returns-2)
+    (tie.spec Inv-loop μ-loop loop-holds (λ c. search needs) (λ c. search needs) (λ c. search needs) returns
+    (λ c. search needs) (λ c. search needs) loop-again returns-2)

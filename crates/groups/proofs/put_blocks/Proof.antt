@@ -19,44 +19,8 @@ abbrev μ-loop : tie.MeasureT-loop
 loop-holds : tie.Need-loop-holds Inv-loop μ-loop
 loop-holds c = (omega arith, written-none _ _ _)
 
-mul-block-overlap : tie.Need-mul-block-overlap Inv-loop μ-loop
-mul-block-overlap c = search needs
-
-cast-block-overlap : tie.Need-cast-block-overlap Inv-loop μ-loop
-cast-block-overlap c = search needs
-
-add-block-overlap : tie.Need-add-block-overlap Inv-loop μ-loop
-add-block-overlap c = search needs
-
 block-overlap-requires : tie.Need-block-overlap-requires Inv-loop μ-loop
-block-overlap-requires c κs = let p = c .before .before .pre .1 in (p .0, omega (arith, p .1, c .loop-test .taken), p .2)
-
-mul-policy-word : tie.Need-mul-policy-word Inv-loop μ-loop
-mul-policy-word c = search needs
-
-array-read-policy-word : tie.Need-array-read-policy-word Inv-loop μ-loop
-array-read-policy-word c = search needs
-
-policy-word-requires : tie.Need-policy-word-requires Inv-loop μ-loop
-policy-word-requires c κs = search needs
-
-mul-values : tie.Need-mul-values Inv-loop μ-loop
-mul-values c = search needs
-
-add-values : tie.Need-add-values Inv-loop μ-loop
-add-values c = search needs
-
-mul-values-2 : tie.Need-mul-values-2 Inv-loop μ-loop
-mul-values-2 c = search needs
-
-element-write-values : tie.Need-element-write-values Inv-loop μ-loop
-element-write-values c = search needs
-
-add-k : tie.Need-add-k Inv-loop μ-loop
-add-k c = search needs
-
-loop-less : tie.Need-loop-less Inv-loop μ-loop
-loop-less c = search needs
+block-overlap-requires c κs = let p = c .before .before .pre .1 in (p .0, omega (arith, p .1, c .loop-test .taken))
 
 loop-again : tie.Need-loop-again Inv-loop μ-loop
 loop-again c =
@@ -65,32 +29,18 @@ loop-again c =
     let s = t .before .before in
     let p = s .pre .0 in (
       omega (arith, t .loop-test .taken),
-      written-more _ _ _ _ _ (t .before .loop .inv .1) (omega (arith, p .0, p .1, t .loop-test .taken)) (λ k l e. omega arith) _
+      written-more _ _ _ _ _ (t .before .loop .inv .1) (omega (arith, p .room, p .below, t .loop-test .taken)) (λ k l e. omega arith) _
           (block-told _ _ (s .args .t3) (s .args .turn) (s .args .still) _ _ _ (o .block-overlap .ensures) (c .policy-word .ensures)),
     )
 
 returns : tie.Need-returns Inv-loop μ-loop
 returns c = let l = c .before .loop in written-all _ _ _ 16 (l .k) _ (omega (arith, l .inv .0, c .loop-test .left)) (l .inv .1)
 
+-- the other needs are found by search
 pub put-blocks-spec : {M : Type 1} → statement M
 put-blocks-spec =
     tie.close
-    (tie.spec
-    Inv-loop
-    μ-loop
-    loop-holds
-    mul-block-overlap
-    cast-block-overlap
-    add-block-overlap
-    block-overlap-requires
-    mul-policy-word
-    array-read-policy-word
-    policy-word-requires
-    mul-values
-    add-values
-    mul-values-2
-    element-write-values
-    add-k
-    loop-less
-    loop-again
+    (tie.spec Inv-loop μ-loop loop-holds (λ c. search needs) (λ c. search needs) (λ c. search needs)
+    block-overlap-requires (λ c. search needs) (λ c. search needs) (λ c κs. search needs) (λ c. search needs)
+    (λ c. search needs) (λ c. search needs) (λ c. search needs) (λ c. search needs) (λ c. search needs) loop-again
     returns)

@@ -6,51 +6,18 @@ use Rattle.arith.proofs.Tables.{written-over, written-as}
 use Rattle.groups.proofs.MaskRuns.{policy-masks, policy-found}
 use Rattle.groups.proofs.Words.{even-told, even-by, blocks-told}
 use Rattle.rod.specs.Reading.{someLine}
-use Rattle.rod.specs.Values.{policyAt}
+use Rattle.rod.specs.Values.{listedAt}
 use Rattle.groups.proofs.put_policy.Statement.{statement}
 use Rattle.groups.proofs.put_policy.Tie as tie
 
-mul-mask : tie.Need-mul-mask
-mul-mask c = search needs
-
-add-mask : tie.Need-add-mask
-add-mask c = search needs
-
-mul-mask-2 : tie.Need-mul-mask-2
-mul-mask-2 c = search needs
-
-shared-slice-read-mask : tie.Need-shared-slice-read-mask
-shared-slice-read-mask c = search needs
-
-add-lines-inside : tie.Need-add-lines-inside
-add-lines-inside c = search needs
-
 lines-inside-requires : tie.Need-lines-inside-requires
-lines-inside-requires c κs = let p = c .before .before .pre in (p .2, policy-masks _ _ _ (p .3))
-
-low-overlap-requires : tie.Need-low-overlap-requires
-low-overlap-requires c κs = search needs
-
-all-if-requires : tie.Need-all-if-requires
-all-if-requires c κs = search needs
-
-all-if-requires-2 : tie.Need-all-if-requires-2
-all-if-requires-2 c κs = search needs
-
-mul-block-overlap : tie.Need-mul-block-overlap
-mul-block-overlap c = search needs
+lines-inside-requires c κs = let p = c .before .before .pre .1 in (p .1, policy-masks _ _ _ (p .0))
 
 block-overlap-requires : tie.Need-block-overlap-requires
 block-overlap-requires c κs =
     let l = c .before .before in
-    let p = l .before .before .before .before .pre in
-    (p .3 .set, omega (arith, p .2), l .low-overlap .ensures)
-
-put-even-requires : tie.Need-put-even-requires
-put-even-requires c κs = search needs
-
-is-even-requires : tie.Need-is-even-requires
-is-even-requires c κs = search needs
+    let p = l .before .before .before .before .pre .1 in
+    (record { set = p .0 .set; told = l .low-overlap .ensures }, omega (arith, p .1))
 
 returns : tie.Need-returns
 returns c =
@@ -61,12 +28,9 @@ returns c =
     let f = i .before .before .before in
     let s = f .before .before .before in
     written-as _ _ _ _ _ _
-    (even-told (policyAt (now (s .args .words)) (s .args .at) (s .args .quiet) (s .args .turned)) (s .args .group) (f .lines-inside .result) _ _
-    (policy-found _ _ _ (s .pre .3) someLine _ (f .lines-inside .result) (f .lines-inside .ensures)) (i .before .all-if .ensures) (i .all-if2 .ensures)
-    _ (b .block-overlap .ensures) (even-by _ _ (s .pre .3 .set) (s .pre .2) _ (e .is-even .ensures) (c .if1 .taken))) (v .put-even .ensures)
-
-put-blocks-requires : tie.Need-put-blocks-requires
-put-blocks-requires c κs = search needs
+    (even-told (listedAt (now (s .args .words)) (s .args .at) (s .args .quiet) (s .args .turned)) (s .args .group) (f .lines-inside .result) _ _
+    (policy-found _ _ _ (s .pre .1 .0) someLine _ (f .lines-inside .result) (f .lines-inside .ensures)) (i .before .all-if .ensures) (i .all-if2 .ensures)
+    _ (b .block-overlap .ensures) (even-by _ _ (s .pre .1 .0 .set) (s .pre .1 .1) _ (e .is-even .ensures) (c .if1 .taken))) (v .put-even .ensures)
 
 returns-2 : tie.Need-returns-2
 returns-2 c =
@@ -76,27 +40,14 @@ returns-2 c =
     let s = f .before .before .before in
     written-over _ _ _ _ _ _ _ (v .put-even .ensures)
     (written-as _ _ _ _ _ _
-    (blocks-told (policyAt (now (s .args .words)) (s .args .at) (s .args .quiet) (s .args .turned)) (s .args .group) (f .lines-inside .result) _ _
-    (policy-found _ _ _ (s .pre .3) someLine _ (f .lines-inside .result) (f .lines-inside .ensures)) (i .before .all-if .ensures) (i .all-if2 .ensures))
+    (blocks-told (listedAt (now (s .args .words)) (s .args .at) (s .args .quiet) (s .args .turned)) (s .args .group) (f .lines-inside .result) _ _
+    (policy-found _ _ _ (s .pre .1 .0) someLine _ (f .lines-inside .result) (f .lines-inside .ensures)) (i .before .all-if .ensures) (i .all-if2 .ensures))
     (c .put-blocks .ensures))
 
+-- the other needs are found by search
 pub put-policy-spec : {M : Type 1} → statement M
 put-policy-spec =
     tie.close
-    (tie.spec
-    mul-mask
-    add-mask
-    mul-mask-2
-    shared-slice-read-mask
-    add-lines-inside
-    lines-inside-requires
-    low-overlap-requires
-    all-if-requires
-    all-if-requires-2
-    mul-block-overlap
-    block-overlap-requires
-    put-even-requires
-    is-even-requires
-    returns
-    put-blocks-requires
-    returns-2)
+    (tie.spec (λ c. search needs) (λ c. search needs) (λ c. search needs) (λ c. search needs) (λ c. search needs)
+    lines-inside-requires (λ c κs. search needs) (λ c κs. search needs) (λ c κs. search needs) (λ c. search needs)
+    block-overlap-requires (λ c κs. search needs) (λ c κs. search needs) returns (λ c κs. search needs) returns-2)

@@ -1,4 +1,4 @@
--- `groups::reading`: the nodes to come say of each set of the group what the whole listing says; each turn takes one node and its lines.
+-- `groups::reading`: the nodes to come say of each set what the whole listing says; a turn takes a node and its lines.
 use Prim.Native.Nat.{_-_, _/_}
 use native.Mathlib.Omega.{arith}
 use lib.ListN.{length}
@@ -15,13 +15,13 @@ abbrev μ-loop : tie.MeasureT-loop
 μ-loop words pairs group values₀ height₀ at₀ values height at = length words / 4 - at
 
 loop-holds : tie.Need-loop-holds Inv-loop μ-loop
-loop-holds c = let p = c .before .pre in past-pairs _ _ _ _ (p .2) (p .0) (p .1) _ (omega arith)
+loop-holds c = let p = c .before .pre in past-pairs _ _ _ _ (p .1) (p .0 .sound) (p .0 .within) _ (omega arith)
 
 next-index-requires : tie.Need-next-index-requires Inv-loop μ-loop
 next-index-requires c κs = (c .loop-test .taken, c .before .loop .inv .node)
 
 after-node-requires : tie.Need-after-node-requires Inv-loop μ-loop
-after-node-requires c κs = let n = c .before in ((n .before .loop-test .taken, n .next-index .ensures), n .before .before .loop .inv)
+after-node-requires c κs = let n = c .before in (record { within = n .before .loop-test .taken; ends = n .next-index .ensures }, n .before .before .loop .inv)
 
 loop-less : tie.Need-loop-less Inv-loop μ-loop
 unfolding nodeEnd
@@ -31,7 +31,7 @@ loop-again : tie.Need-loop-again Inv-loop μ-loop
 loop-again c = c .after-node .ensures
 
 returns : tie.Need-returns Inv-loop μ-loop
-returns c = let u = c .before .loop .inv in (group-ends _ _ _ _ _ (c .loop-test .left) u, u .room)
+returns c = let u = c .before .loop .inv in record { room = u .room; told = group-ends _ _ _ _ _ (c .loop-test .left) u }
 
 pub reading-spec : {M : Type 1} → statement M
 reading-spec =

@@ -4,36 +4,6 @@ use Rattle.groups.proofs.SpreadLaws.{reached-more}
 use Rattle.groups.proofs.spread.Statement.{statement}
 use Rattle.groups.proofs.spread.Tie as tie
 
-spread-low-requires : tie.Need-spread-low-requires
-spread-low-requires c κs = search needs
-
-spread-low-requires-2 : tie.Need-spread-low-requires-2
-spread-low-requires-2 c κs = search needs
-
-spread-low-requires-3 : tie.Need-spread-low-requires-3
-spread-low-requires-3 c κs = search needs
-
-spread-low-requires-4 : tie.Need-spread-low-requires-4
-spread-low-requires-4 c κs = search needs
-
-spread-low-requires-5 : tie.Need-spread-low-requires-5
-spread-low-requires-5 c κs = search needs
-
-spread-low-requires-6 : tie.Need-spread-low-requires-6
-spread-low-requires-6 c κs = search needs
-
-spread-high-requires : tie.Need-spread-high-requires
-spread-high-requires c κs = search needs
-
-spread-high-requires-2 : tie.Need-spread-high-requires-2
-spread-high-requires-2 c κs = search needs
-
-spread-high-requires-3 : tie.Need-spread-high-requires-3
-spread-high-requires-3 c κs = search needs
-
-spread-high-requires-4 : tie.Need-spread-high-requires-4
-spread-high-requires-4 c κs = search needs
-
 returns : tie.Need-returns
 returns c =
     let c8 = c .before .before in
@@ -51,18 +21,10 @@ returns c =
     (c1 .spread-low2 .ensures)) (c2 .spread-low3 .ensures)) (c3 .spread-low4 .ensures)) (c4 .spread-low5 .ensures)) (c5 .spread-low6 .ensures))
     (c6 .spread-high .ensures)) (c7 .spread-high2 .ensures)) (c8 .spread-high3 .ensures)) (c .spread-high4 .ensures)
 
+-- the other needs are found by search
 pub spread-spec : {M : Type 1} → statement M
 spread-spec =
     tie.close
-    (tie.spec
-    spread-low-requires
-    spread-low-requires-2
-    spread-low-requires-3
-    spread-low-requires-4
-    spread-low-requires-5
-    spread-low-requires-6
-    spread-high-requires
-    spread-high-requires-2
-    spread-high-requires-3
-    spread-high-requires-4
-    returns)
+    (tie.spec (λ c κs. search needs) (λ c κs. search needs) (λ c κs. search needs) (λ c κs. search needs)
+    (λ c κs. search needs) (λ c κs. search needs) (λ c κs. search needs) (λ c κs. search needs) (λ c κs. search needs)
+    (λ c κs. search needs) returns)

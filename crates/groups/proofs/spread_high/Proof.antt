@@ -20,23 +20,8 @@ abbrev μ-loop : tie.MeasureT-loop
 less : (c : tie.In-loop Inv-loop μ-loop) → let k = c .before .loop .k in bitAnd k ((1 * 2 ^ (c .before .before .args .signal - 6)) % 2 ^ 64) ≤ k
 less c = and-le-l _ _
 
-sub-weight : tie.Need-sub-weight Inv-loop μ-loop
-sub-weight c = search needs
-
-cast-weight : tie.Need-cast-weight Inv-loop μ-loop
-cast-weight c = search needs
-
-shl-weight : tie.Need-shl-weight Inv-loop μ-loop
-shl-weight c = search needs
-
 loop-holds : tie.Need-loop-holds Inv-loop μ-loop
 loop-holds c = (omega arith, written-none _ _ _)
-
-mul-table : tie.Need-mul-table Inv-loop μ-loop
-mul-table c = search needs
-
-element-copy-out-table : tie.Need-element-copy-out-table Inv-loop μ-loop
-element-copy-out-table c = search needs
 
 sub-table : tie.Need-sub-table Inv-loop μ-loop
 sub-table c = omega (arith, less (c .before))
@@ -47,18 +32,6 @@ mul-table-2 c = omega (arith, less (c .before))
 element-copy-out-table-2 : tie.Need-element-copy-out-table-2 Inv-loop μ-loop
 element-copy-out-table-2 c = omega (arith, less (c .before))
 
-mul-table-3 : tie.Need-mul-table-3 Inv-loop μ-loop
-mul-table-3 c = search needs
-
-element-write-table : tie.Need-element-write-table Inv-loop μ-loop
-element-write-table c = search needs
-
-add-k : tie.Need-add-k Inv-loop μ-loop
-add-k c = search needs
-
-loop-less : tie.Need-loop-less Inv-loop μ-loop
-loop-less c = search needs
-
 loop-again : tie.Need-loop-again Inv-loop μ-loop
 loop-again c =
     let t = c .before .before in
@@ -67,33 +40,19 @@ loop-again c =
     let w = t .before .loop .inv .1 in (
       omega (arith, t .loop-test .taken),
       written-more _ _ _ _ _ w (omega (arith, p .0, t .loop-test .taken)) (λ k l e. omega arith) _
-          (high-word _ _ _ _ _ (omega (arith, p .2)) (t .loop-test .taken) (bit-is (s .args .signal - 6) 64 (omega (arith, p .2))) w),
+          (high-word _ _ _ _ _ (omega (arith, p .1 .most)) (t .loop-test .taken) (bit-is (s .args .signal - 6) 64 (omega (arith, p .1 .most))) w),
     )
 
 returns : tie.Need-returns Inv-loop μ-loop
 returns c =
     let l = c .before .loop in
     let p = c .before .before .pre in
-    spread-by _ _ _ (p .1) (high-spread _ _ _ (p .0) (written-all _ _ _ 16 (l .k) _ (omega (arith, l .inv .0, c .loop-test .left)) (l .inv .1)))
+    spread-by _ _ _ (p .1 .least) (high-spread _ _ _ (p .0) (written-all _ _ _ 16 (l .k) _ (omega (arith, l .inv .0, c .loop-test .left)) (l .inv .1)))
 
+-- the other needs are found by search
 pub spread-high-spec : {M : Type 1} → statement M
 spread-high-spec =
     tie.close
-    (tie.spec
-    Inv-loop
-    μ-loop
-    sub-weight
-    cast-weight
-    shl-weight
-    loop-holds
-    mul-table
-    element-copy-out-table
-    sub-table
-    mul-table-2
-    element-copy-out-table-2
-    mul-table-3
-    element-write-table
-    add-k
-    loop-less
-    loop-again
-    returns)
+    (tie.spec Inv-loop μ-loop (λ c. search needs) (λ c. search needs) (λ c. search needs) loop-holds
+    (λ c. search needs) (λ c. search needs) sub-table mul-table-2 element-copy-out-table-2 (λ c. search needs)
+    (λ c. search needs) (λ c. search needs) (λ c. search needs) loop-again returns)

@@ -19,27 +19,6 @@ abbrev μ-loop : tie.MeasureT-loop
 loop-holds : tie.Need-loop-holds Inv-loop μ-loop
 loop-holds c = (refl, refl)
 
-mul-reading : tie.Need-mul-reading Inv-loop μ-loop
-mul-reading c = search needs
-
-shared-slice-read-reading : tie.Need-shared-slice-read-reading Inv-loop μ-loop
-shared-slice-read-reading c = search needs
-
-reading-requires : tie.Need-reading-requires Inv-loop μ-loop
-reading-requires c κs = search needs
-
-cast-answers : tie.Need-cast-answers Inv-loop μ-loop
-cast-answers c = search needs
-
-slice-write-answers : tie.Need-slice-write-answers Inv-loop μ-loop
-slice-write-answers c = search needs
-
-add-i : tie.Need-add-i Inv-loop μ-loop
-add-i c = search needs
-
-loop-less : tie.Need-loop-less Inv-loop μ-loop
-loop-less c = search needs
-
 loop-again : tie.Need-loop-again Inv-loop μ-loop
 loop-again c =
     let t = c .before .before in
@@ -58,20 +37,9 @@ returns c =
     let s = c .before .before .before .before .before in
     l .inv .1 ∙ answered-all _ _ _ (l .i) (c .loop-test .left) (s .pre .1)
 
+-- the other needs are found by search
 pub answer-all-spec : {M : Type 1} → statement M
 answer-all-spec =
     tie.close
-    (tie.spec
-    Inv-loop
-    μ-loop
-    loop-holds
-    mul-reading
-    shared-slice-read-reading
-    reading-requires
-    cast-answers
-    slice-write-answers
-    add-i
-    loop-less
-    loop-again
-    same-length
-    returns)
+    (tie.spec Inv-loop μ-loop loop-holds (λ c. search needs) (λ c. search needs) (λ c κs. search needs)
+    (λ c. search needs) (λ c. search needs) (λ c. search needs) (λ c. search needs) loop-again same-length returns)

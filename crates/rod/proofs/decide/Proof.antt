@@ -6,17 +6,8 @@ use borrow.Author.Needs.{needs}
 use Rattle.rod.proofs.decide.Statement.{statement}
 use Rattle.rod.proofs.decide.Tie as tie
 
-check-requires : tie.Need-check-requires
-check-requires c κs = search needs
-
-enum-told : tie.Need-enum-told
-enum-told c = search needs
-
 reading-requires : tie.Need-reading-requires
 reading-requires c κs = sym (c .before .before .check .ensures) ∙ ap verdictMeaning (c .enum-told .given .1)
-
-enum-known-v : tie.Need-enum-known-v
-enum-known-v c = search needs
 
 returns : tie.Need-returns
 returns c =
@@ -31,9 +22,11 @@ returns-2 c =
 returns-3 : tie.Need-returns-3
 returns-3 c =
     let e = c .before in
-    declines _ _ _ _ (sym (e .before .before .check .ensures) ∙ ap verdictMeaning (e .v .given .1))
+    declines _ _ _ _ (sym (e .before .before .check .ensures) ∙ ap verdictMeaning (e .verdict .given .1))
 
+-- the other needs are found by search
 pub decide-spec : {M : Type 1} → statement M
 decide-spec =
     tie.close
-    (tie.spec check-requires enum-told reading-requires enum-known-v returns returns-2 returns-3)
+    (tie.spec (λ c κs. search needs) (λ c. search needs) reading-requires (λ c. search needs) returns returns-2
+    returns-3)

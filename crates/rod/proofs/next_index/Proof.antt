@@ -6,23 +6,8 @@ use Rattle.rod.proofs.Steps.{next-zero, next-more}
 use Rattle.rod.proofs.next_index.Statement.{statement}
 use Rattle.rod.proofs.next_index.Tie as tie
 
-mul-next : tie.Need-mul-next
-mul-next c = search needs
-
-add-next : tie.Need-add-next
-add-next c = search needs
-
-mul-next-2 : tie.Need-mul-next-2
-mul-next-2 c = search needs
-
-shared-slice-read-next : tie.Need-shared-slice-read-next
-shared-slice-read-next c = search needs
-
 cast-result : tie.Need-cast-result
 cast-result c = omega (arith, c .before .shared-slice-known .given (c .before .before .args .at * 4 + 3))
-
-sub-result : tie.Need-sub-result
-sub-result c = search needs
 
 returns : tie.Need-returns
 returns c = next-zero _ _ (c .before .before .pre .0) (c .before .before .pre .1) (c .if1 .taken)
@@ -30,15 +15,9 @@ returns c = next-zero _ _ (c .before .before .pre .0) (c .before .before .pre .1
 returns-2 : tie.Need-returns-2
 returns-2 c = next-more _ _ (c .before .before .pre .0) (c .before .before .pre .1) (c .if1 .left)
 
+-- the other needs are found by search
 pub next-index-spec : {M : Type 1} → statement M
 next-index-spec =
     tie.close
-    (tie.spec
-    mul-next
-    add-next
-    mul-next-2
-    shared-slice-read-next
-    cast-result
-    sub-result
-    returns
-    returns-2)
+    (tie.spec (λ c. search needs) (λ c. search needs) (λ c. search needs) (λ c. search needs) cast-result
+    (λ c. search needs) returns returns-2)

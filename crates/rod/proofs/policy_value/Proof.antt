@@ -5,21 +5,6 @@ use borrow.Author.Needs.{needs}
 use Rattle.rod.proofs.policy_value.Statement.{statement}
 use Rattle.rod.proofs.policy_value.Tie as tie
 
-mul-mask : tie.Need-mul-mask
-mul-mask c = search needs
-
-add-mask : tie.Need-add-mask
-add-mask c = search needs
-
-mul-mask-2 : tie.Need-mul-mask-2
-mul-mask-2 c = search needs
-
-shared-slice-read-mask : tie.Need-shared-slice-read-mask
-shared-slice-read-mask c = search needs
-
-add-some-line : tie.Need-add-some-line
-add-some-line c = search needs
-
 some-line-requires : tie.Need-some-line-requires
 some-line-requires c κs = c .before .before .before .pre .1
 
@@ -32,16 +17,9 @@ returns-2 c = value-plain _ _ (omega arith) (c .before .before .if1 .taken) (c .
 returns-3 : tie.Need-returns-3
 returns-3 c = value-quiet _ _ (omega arith) (c .if1 .left)
 
+-- the other needs are found by search
 pub policy-value-spec : {M : Type 1} → statement M
 policy-value-spec =
     tie.close
-    (tie.spec
-    mul-mask
-    add-mask
-    mul-mask-2
-    shared-slice-read-mask
-    add-some-line
-    some-line-requires
-    returns
-    returns-2
-    returns-3)
+    (tie.spec (λ c. search needs) (λ c. search needs) (λ c. search needs) (λ c. search needs) (λ c. search needs)
+    some-line-requires returns returns-2 returns-3)

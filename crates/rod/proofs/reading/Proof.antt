@@ -2,13 +2,13 @@
 use Prim.Native.Nat.{_-_, _/_}
 use native.Mathlib.Omega.{arith}
 use lib.ListN.{length}
-use Rattle.rod.specs.Values.{nodeEnd, Underway}
+use Rattle.rod.specs.Values.{nodeEnd, ReadingUnderway}
 use Rattle.rod.proofs.Steps.{begins, ends}
 use Rattle.rod.proofs.reading.Statement.{statement}
 use Rattle.rod.proofs.reading.Tie as tie
 
 abbrev Inv-loop : tie.InvT-loop
-Inv-loop words set values₀ at₀ values at = Underway words set at values
+Inv-loop words set values₀ at₀ values at = ReadingUnderway words set at values
 
 abbrev μ-loop : tie.MeasureT-loop
 μ-loop words set values₀ at₀ values at = length words / 4 - at
@@ -20,7 +20,7 @@ next-index-requires : tie.Need-next-index-requires Inv-loop μ-loop
 next-index-requires c κs = (c .loop-test .taken, c .before .loop .inv .node)
 
 after-node-requires : tie.Need-after-node-requires Inv-loop μ-loop
-after-node-requires c κs = (c .before .loop-test .taken, c .next-index .ensures, c .before .before .loop .inv)
+after-node-requires c κs = (record { within = c .before .loop-test .taken; ends = c .next-index .ensures }, c .before .before .loop .inv)
 
 loop-less : tie.Need-loop-less Inv-loop μ-loop
 unfolding nodeEnd

@@ -22,9 +22,6 @@ abbrev μ-loop2 : tie.MeasureT-loop2
 loop-holds : tie.Need-loop-holds Inv-loop μ-loop Inv-loop2 μ-loop2
 loop-holds c = let s = c .before in record { left = s .pre; same = refl }
 
-sub-loop : tie.Need-sub-loop Inv-loop μ-loop Inv-loop2 μ-loop2
-sub-loop c = omega (arith, c .loop .inv .left .run)
-
 -- ---- four lines
 
 -- j lines of a turn are passed
@@ -44,9 +41,6 @@ passed-1 c =
     let t = p .before in
     walk-on (t .before .loop .inv) (omega (arith, t .loop-test .taken)) _ (p .is-inside .ensures) (c .if1 .left) _ refl
 
-add-is-inside : tie.Need-add-is-inside Inv-loop μ-loop Inv-loop2 μ-loop2
-add-is-inside c = omega arith
-
 is-inside-requires-2 : tie.Need-is-inside-requires-2 Inv-loop μ-loop Inv-loop2 μ-loop2
 is-inside-requires-2 c κs = walk-here (passed-1 c) (omega (arith, c .before .before .loop-test .taken))
 
@@ -61,9 +55,6 @@ passed-2 c =
     let p = c .before in
     let b = p .before in
     walk-on (passed-1 b) (omega (arith, b .before .before .loop-test .taken)) _ (p .is-inside2 .ensures) (c .if2 .left) _ (omega arith)
-
-add-is-inside-2 : tie.Need-add-is-inside-2 Inv-loop μ-loop Inv-loop2 μ-loop2
-add-is-inside-2 c = omega arith
 
 is-inside-requires-3 : tie.Need-is-inside-requires-3 Inv-loop μ-loop Inv-loop2 μ-loop2
 is-inside-requires-3 c κs = walk-here (passed-2 c) (omega (arith, c .before .before .before .before .loop-test .taken))
@@ -80,9 +71,6 @@ passed-3 c =
     let b = p .before in
     walk-on (passed-2 b) (omega (arith, b .before .before .before .before .loop-test .taken)) _ (p .is-inside3 .ensures) (c .if3 .left) _ (omega arith)
 
-add-is-inside-3 : tie.Need-add-is-inside-3 Inv-loop μ-loop Inv-loop2 μ-loop2
-add-is-inside-3 c = omega arith
-
 is-inside-requires-4 : tie.Need-is-inside-requires-4 Inv-loop μ-loop Inv-loop2 μ-loop2
 is-inside-requires-4 c κs = walk-here (passed-3 c) (omega (arith, c .before .before .before .before .before .before .loop-test .taken))
 
@@ -91,9 +79,6 @@ returns-4 c =
     let p = c .before in
     let b = p .before in
     walk-found (passed-3 b) (omega (arith, b .before .before .before .before .before .before .loop-test .taken)) _ (p .is-inside4 .ensures) (c .if4 .taken)
-
-add-i : tie.Need-add-i Inv-loop μ-loop Inv-loop2 μ-loop2
-add-i c = omega arith
 
 loop-less : tie.Need-loop-less Inv-loop μ-loop Inv-loop2 μ-loop2
 loop-less c = omega (arith, c .before .before .before .before .before .before .before .before .loop-test .taken)
@@ -115,12 +100,6 @@ is-inside-requires-5 c κs = walk-here (c .before .loop2 .inv) (c .loop2-test .t
 returns-5 : tie.Need-returns-5 Inv-loop μ-loop Inv-loop2 μ-loop2
 returns-5 c = let p = c .before in let t = p .before in walk-found (t .before .loop2 .inv) (t .loop2-test .taken) _ (p .is-inside5 .ensures) (c .if5 .taken)
 
-add-i-2 : tie.Need-add-i-2 Inv-loop μ-loop Inv-loop2 μ-loop2
-add-i-2 c = omega (arith, c .before .before .loop2-test .taken)
-
-loop2-less : tie.Need-loop2-less Inv-loop μ-loop Inv-loop2 μ-loop2
-loop2-less c = omega (arith, c .before .before .loop2-test .taken)
-
 loop2-again : tie.Need-loop2-again Inv-loop μ-loop Inv-loop2 μ-loop2
 loop2-again c =
     let p = c .before in
@@ -130,34 +109,12 @@ loop2-again c =
 returns-6 : tie.Need-returns-6 Inv-loop μ-loop Inv-loop2 μ-loop2
 returns-6 c = walk-end (c .before .loop2 .inv) (c .loop2-test .left)
 
+-- the other needs are of numbers
 pub some-line-spec : {M : Type 1} → statement M
 some-line-spec =
     tie.close
-    (tie.spec
-    Inv-loop
-    μ-loop
-    Inv-loop2
-    μ-loop2
-    loop-holds
-    sub-loop
-    is-inside-requires
-    returns
-    add-is-inside
-    is-inside-requires-2
-    returns-2
-    add-is-inside-2
-    is-inside-requires-3
-    returns-3
-    add-is-inside-3
-    is-inside-requires-4
-    returns-4
-    add-i
-    loop-less
-    loop-again
-    loop2-holds
-    is-inside-requires-5
-    returns-5
-    add-i-2
-    loop2-less
-    loop2-again
-    returns-6)
+    (tie.spec Inv-loop μ-loop Inv-loop2 μ-loop2 loop-holds (λ c. omega (arith, c .loop .inv .left .run))
+    is-inside-requires returns (λ c. omega arith) is-inside-requires-2 returns-2 (λ c. omega arith)
+    is-inside-requires-3 returns-3 (λ c. omega arith) is-inside-requires-4 returns-4 (λ c. omega arith) loop-less
+    loop-again loop2-holds is-inside-requires-5 returns-5 (λ c. omega (arith, c .before .before .loop2-test .taken))
+    (λ c. omega (arith, c .before .before .loop2-test .taken)) loop2-again returns-6)

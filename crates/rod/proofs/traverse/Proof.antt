@@ -16,9 +16,6 @@ returns c =
     let s = c .before .before .before .before in
     unequal (now (s .args .words)) (now (s .args .sets)) (now (s .args .answers)) (λ e. omega (arith, c .if1 .taken, e))
 
-check-requires : tie.Need-check-requires
-check-requires c κs = search needs
-
 -- the verdict in an arm is the definition's
 told : (c : tie.After-check) (v : Verdict) → c .check .result ≡ v → let s = c .before .before .before .before .before in
     verdict (now (s .args .words)) ≡ verdictMeaning v
@@ -28,20 +25,11 @@ told c v e = sym (c .check .ensures) ∙ ap verdictMeaning e
 equal : (c : tie.After-check) → let s = c .before .before .before .before .before in length (now (s .args .sets)) ≡ length (now (s .args .answers))
 equal c = omega (arith, c .before .if1 .left)
 
-enum-told : tie.Need-enum-told
-enum-told c = search needs
-
 answer-all-requires : tie.Need-answer-all-requires
 answer-all-requires c κs =
     let e = c .before in
     let a = e .before .before in
     (told a _ (e .enum-told .given .1), equal a)
-
-enum-known-v : tie.Need-enum-known-v
-enum-known-v c = search needs
-
-same-length : tie.Need-same-length
-same-length c = search needs
 
 returns-2 : tie.Need-returns-2
 returns-2 c =
@@ -55,17 +43,11 @@ returns-3 : tie.Need-returns-3
 returns-3 c =
     let e = c .before in
     let a = e .before .before in
-    unsound _ _ _ (equal a) _ (told a _ (e .v .given .1))
+    unsound _ _ _ (equal a) _ (told a _ (e .verdict .given .1))
 
+-- the other needs are found by search
 pub traverse-spec : {M : Type 1} → statement M
 traverse-spec =
     tie.close
-    (tie.spec
-    returns
-    check-requires
-    enum-told
-    answer-all-requires
-    enum-known-v
-    same-length
-    returns-2
-    returns-3)
+    (tie.spec returns (λ c κs. search needs) (λ c. search needs) answer-all-requires (λ c. search needs)
+    (λ c. search needs) returns-2 returns-3)

@@ -4,18 +4,6 @@ use Rattle.rod.proofs.ValueLaws.{or-none, or-some, and-both, and-not}
 use Rattle.rod.proofs.with_join.Statement.{statement}
 use Rattle.rod.proofs.with_join.Tie as tie
 
-add-yes : tie.Need-add-yes
-add-yes c = search needs
-
-mul-rest : tie.Need-mul-rest
-mul-rest c = search needs
-
-add-result : tie.Need-add-result
-add-result c = search needs
-
-add-result-2 : tie.Need-add-result-2
-add-result-2 c = search needs
-
 returns : tie.Need-returns
 returns c = or-none _ _ (c .before .if1 .taken) (c .if2 .taken)
 
@@ -28,7 +16,9 @@ returns-3 c = and-both _ _ (c .before .if1 .left) (c .if3 .taken)
 returns-4 : tie.Need-returns-4
 returns-4 c = and-not _ _ (c .before .if1 .left) (c .if3 .left)
 
+-- the other needs are found by search
 pub with-join-spec : {M : Type 1} → statement M
 with-join-spec =
     tie.close
-    (tie.spec add-yes mul-rest add-result add-result-2 returns returns-2 returns-3 returns-4)
+    (tie.spec (λ c. search needs) (λ c. search needs) (λ c. search needs) (λ c. search needs) returns returns-2
+    returns-3 returns-4)

@@ -4,20 +4,14 @@ use Rattle.rod.proofs.ValueLaws.{value-yes, value-no}
 use Rattle.rod.proofs.with_value.Statement.{statement}
 use Rattle.rod.proofs.with_value.Tie as tie
 
-mul-result : tie.Need-mul-result
-mul-result c = search needs
-
-add-result : tie.Need-add-result
-add-result c = search needs
-
-mul-result-2 : tie.Need-mul-result-2
-mul-result-2 c = search needs
-
 returns : tie.Need-returns
 returns c = value-yes _ _ (c .if1 .taken)
 
 returns-2 : tie.Need-returns-2
 returns-2 c = value-no _ _ (c .if1 .left)
 
+-- the other needs are found by search
 pub with-value-spec : {M : Type 1} → statement M
-with-value-spec = tie.close (tie.spec mul-result add-result mul-result-2 returns returns-2)
+with-value-spec =
+    tie.close
+    (tie.spec (λ c. search needs) (λ c. search needs) (λ c. search needs) returns returns-2)
