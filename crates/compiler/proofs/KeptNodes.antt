@@ -139,20 +139,16 @@ module _ {cells : List ℤ} {n : ℕ} (k : ConditionKept cells n) where
         lines-kept t e count f = record { kept = policy-kept; fits = threshold-fits t e; counted = f ∙ mention-lines t e }
 
   pub lines-few : (i : ℕ) → i < size → linesIn (nodeAt (k .book) (k .condition) i) ≤ 65536
-  lines-few i h = ⊎-elim mention joined (le-or-lt 2 (codeAt i))
-    where
-      mention : 2 ≤ codeAt i → linesIn (nodeAt (k .book) (k .condition) i) ≤ 65536
-      mention l = kept-few (lines-kept i (codeAt i) refl l h (k .condition .threshold) refl _ refl)
-
-      joined : codeAt i < 2 → linesIn (nodeAt (k .book) (k .condition) i) ≤ 65536
-      joined l = omega (arith, no-lines i (codeAt i) refl l)
+  lines-few i h =
+      ⊎-elim
+      (λ (l : 2 ≤ codeAt i). kept-few (lines-kept i (codeAt i) refl l h (k .condition .threshold) refl _ refl))
+      (λ (l : codeAt i < 2). omega (arith, no-lines i (codeAt i) refl l))
+      (le-or-lt 2 (codeAt i))
 
   -- nodes with the same code have as many lines
   pub same-lines : (i j code : ℕ) → code ≡ codeAt i → code ≡ codeAt j → linesIn (nodeAt (k .book) (k .condition) j) ≡ linesIn (nodeAt (k .book) (k .condition) i)
-  same-lines i j code e f = ⊎-elim mention joined (le-or-lt 2 code)
-    where
-      mention : 2 ≤ code → linesIn (nodeAt (k .book) (k .condition) j) ≡ linesIn (nodeAt (k .book) (k .condition) i)
-      mention l = mention-lines j code f l (k .condition .threshold) refl ∙ sym (mention-lines i code e l (k .condition .threshold) refl)
-
-      joined : code < 2 → linesIn (nodeAt (k .book) (k .condition) j) ≡ linesIn (nodeAt (k .book) (k .condition) i)
-      joined l = no-lines j code f l ∙ sym (no-lines i code e l)
+  same-lines i j code e f =
+      ⊎-elim
+      (λ (l : 2 ≤ code). mention-lines j code f l (k .condition .threshold) refl ∙ sym (mention-lines i code e l (k .condition .threshold) refl))
+      (λ (l : code < 2). no-lines j code f l ∙ sym (no-lines i code e l))
+      (le-or-lt 2 code)

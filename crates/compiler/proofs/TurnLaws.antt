@@ -25,13 +25,11 @@ use Rattle.compiler.proofs.KeptNodes.{size, nodes-count, node-here}
 -- the cells below i hold the values of f; one more does
 pub cells-more : (f : ℕ → ℕ) (cells : List ℕ) (i x : ℕ) → i < length cells → ((j : ℕ) → j < i → getD cells j 0 ≡ f j) → x ≡ f i
     → (j : ℕ) → j < i + 1 → getD (set cells i x) j 0 ≡ f j
-cells-more f cells i x room below e j h = ⊎-elim here other (le-or-lt i j)
-  where
-    here : i ≤ j → getD (set cells i x) j 0 ≡ f j
-    here l = let s : i ≡ j = omega arith in ap (λ (n : ℕ). getD (set cells i x) n 0) (sym s) ∙ getD-set-same cells i x 0 room ∙ e ∙ ap f s
-
-    other : j < i → getD (set cells i x) j 0 ≡ f j
-    other l = getD-set-other cells i j x 0 (λ s. omega arith) ∙ below j l
+cells-more f cells i x room below e j h =
+    ⊎-elim
+    (λ (l : i ≤ j). let s : i ≡ j = omega arith in ap (λ (n : ℕ). getD (set cells i x) n 0) (sym s) ∙ getD-set-same cells i x 0 room ∙ e ∙ ap f s)
+    (λ (l : j < i). getD-set-other cells i j x 0 (λ s. omega arith) ∙ below j l)
+    (le-or-lt i j)
 
 module _ {cells : List ℤ} {number : ℕ} (k : ConditionKept cells number) where
   abbrev nodes : List ListedNode
