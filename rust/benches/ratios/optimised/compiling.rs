@@ -56,7 +56,7 @@ impl Writer<'_> {
         self.number += 1;
     }
 
-    /// The number of the node behind so many lines, or 0 at the end.
+    /// The number of the node after so many lines, or 0 at the end.
     fn node_behind(&self, lines: usize) -> usize {
         if 4 * (self.number + lines) == self.words.len() { 0 } else { self.number + lines + 1 }
     }
