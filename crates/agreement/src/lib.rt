@@ -56,7 +56,8 @@ pub enum Both {
     NoRoom,
 }
 
-// Demand 3 of one set, as a call: the office compiles, the rod reads the compiled listing, and the logger decides from the book.
+// Demand 3 of one set, as a call: the office compiles, the rod reads the compiled listing, and the logger decides from
+// the book.
 pub fn ask_both(bytes: &[u8], condition: u32, set: u16, words: &mut [u32]) -> Both
     ensures { λ r. ⌜ bothMeaning r ≡ bothSay (now (bytes .entry)) condition set (length (now (words .entry))) ⌝ }
     ensures { λ r. ⌜ now (words .exit) ≡ leftBy (now (bytes .entry)) condition (now (words .entry)) ⌝ }

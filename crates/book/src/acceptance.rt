@@ -22,8 +22,8 @@ ghost use Rattle.book.specs.Ranges.{ExclusionsKept};
 ghost use Rattle.book.specs.SoFar.{Kept};
 ghost use Rattle.book.specs.Judged.{JudgedFor, PolicyJudged, ConditionJudged};
 
-// What the lines so far leave for the next one, beside the cells: whether the line above is a `p` or an `r`, the counts,
-// and whether the first line is an `o`.
+// What the lines so far leave for the next one, beside the cells: whether the line above is a `p` or an `r`, the
+// counts, and whether the first line is an `o`.
 pub struct SoFar {
     pub in_rules: bool,
     pub policies: usize,

@@ -139,8 +139,8 @@ fn add_condition(
     })
 }
 
-// A line of at most 128 bytes that was read as `form`; `top` tells whether it is line 1. It stands apart from `add_line`
-// so that each form's function is put in place by the back end (docs/DECISIONS.md, D34).
+// A line of at most 128 bytes that was read as `form`; `top` tells whether it is line 1. It stands apart from
+// `add_line` so that each form's function is put in place by the back end (docs/DECISIONS.md, D34).
 fn add_form(cells: &mut Cells, state: SoFar, line: &[u8], top: bool, form: Line) -> Step
     requires { ⌜ CanAddForm state (now cells) (now line) form ⌝ }
     ensures { λ r. ⌜ FormAdded state (now (cells .entry)) (now (line .entry)) top form r (now (cells .exit)) ⌝ }

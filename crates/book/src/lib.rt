@@ -1,6 +1,5 @@
-// Books of evidence policies, as text.
-// `check` is the call, and takes every byte string. The modules are this crate's own; of their functions `ask` and those
-// that read the cells of a read book are for the crates above.
+// Books of evidence policies, as text. `check` is the call, and takes every byte string. The modules are this crate's
+// own; of their functions `ask` and those that read the cells of a read book are for the crates above.
 mod acceptance;
 mod adding;
 mod cells;

@@ -3,8 +3,9 @@
 //   large C L TEXT     the same, with a checksum in place of the words
 //   both C S TEXT      the rod's answer on the compiled listing and the scored decision, on signal set S
 //   agree C D TEXT     both on every set that D divides: how many give yes and no, or the first on which they differ
-// TEXT is a book, all that follows the one space; in it `|` stands for byte 10. Before `compile` and `large` every word of the
-// space is marked by its index, and they tell whether the words beyond the listing, lent or not, still are (`kept`).
+// TEXT is a book, all that follows the one space; in it `|` stands for byte 10. Before `compile` and `large` every word
+// of the space is marked by its index, and they tell whether the words beyond the listing, lent or not, still are
+// (`kept`).
 use printing::print;
 use printing::print_compiled;
 use printing::print_logger;

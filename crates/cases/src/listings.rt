@@ -3,7 +3,7 @@
 //   read S W W ..            the rod's answer on signal set S
 //   choice W W ..            the choice check, and how many sets were judged
 //   compare W .. / W ..      the comparison
-//   traverse N S .. / W ..   a traverse with N lent answers, 7 each, on the sets S: what it returned, and the answers it left
+//   traverse N S .. / W ..   a traverse with N lent answers, 7 each, on the sets S: what it returned, and what it left
 // Each number stands after one space.
 use printing::print;
 use printing::print_bytes;

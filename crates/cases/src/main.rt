@@ -1,6 +1,6 @@
-// Runs the cases: a vector on each line of standard input, and its answer on the same line of standard output. What vectors
-// look like stands in `listings`, `books` and `compiling`, beside what answers them. A line that begins with # is copied, and
-// one that is no vector is answered by `no vector`.
+// Runs the cases: a vector on each line of standard input, and its answer on the same line of standard output. What
+// vectors look like stands in `listings`, `books` and `compiling`, beside what answers them. A line that begins with #
+// is copied, and one that is no vector is answered by `no vector`.
 mod books;
 mod compiling;
 mod listings;

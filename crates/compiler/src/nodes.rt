@@ -20,7 +20,7 @@ ghost use Rattle.compiler.specs.Searching.{LinesKept, ForLines};
 ghost use Rattle.compiler.specs.Nodes.{ForJoin, NodeCounted, linesIn, nodeAt, follows, CountsUpTo, CountsKept, RecordsCounted, NodePut, NodesFit, NodesPut};
 
 // How many lines each node of a condition has: there is a code for each node.
-pub type LineCounts = [usize; CODE_COUNT];
+type LineCounts = [usize; CODE_COUNT];
 
 // The kind of a join, from its code: "and" for min under `<`, "or" for max; under `>=` the reverse.
 fn join_kind(sense: peal::Sense, code: u32) -> u32

@@ -1,6 +1,6 @@
-// The calls for programs in C or Rust that link this code; include/cerahupo.h is their header.
-// Each takes every input, and returns its answer as one number. Only compiling writes the lent words, only the score's call the
-// lent number, and only a traverse the lent answers.
+// The calls for programs in C or Rust that link this code; include/cerahupo.h is their header. Each takes every input,
+// and returns its answer as one number. Only compiling writes the lent words, only the score's call the lent number,
+// and only a traverse the lent answers.
 ghost use mathlib.Core.Path.{_≡_};
 ghost use Prim.Native.Nat.{_+_, _-_, _*_, _^_, _≤_, _<_};
 ghost use Rattle.layout.specs.Records.{oneIf};

@@ -4,14 +4,14 @@ use mathlib.Core.List.{List, [], _∷_, _++_}
 use mathlib.Core.Path.{_≡_, refl, sym, ap, ap₂, _∙_}
 use native.Mathlib.Nat.{zero-add}
 use native.Mathlib.Omega.{arith}
-use lib.ListN.{length, take, drop}
+use lib.ListN.{length, drop}
 use lib.Seq.{sets, length-sets, sets-eq}
 use borrow.Author.Tests.{eq-eqb, ne-eqb}
 use Rattle.arith.proofs.Rows.{row-then-row}
 use Rattle.layout.specs.Records.{Record, words, lineKind}
 use Rattle.layout.specs.Judgement.{ifAny}
 use Rattle.layout.specs.Nodes.{lineRecords}
-use Rattle.layout.specs.Writing.{putRecord, putRecords, lineRecord, linesUpTo, PutInPlace}
+use Rattle.layout.specs.Writing.{putRecord, putRecords, lineRecord, linesUpTo}
 use Rattle.layout.proofs.WordLaws.{length-words}
 
 -- ---- no word is added
@@ -44,11 +44,6 @@ put-row (r ∷ rs) ws n h =
     put-row rs (putRecord ws n r) (n + 1) (omega arith)
     ∙ ap (λ (k : ℕ). sets (putRecord ws n r) k (words rs)) e
     ∙ sym (row-then-row (words (r ∷ [])) (words rs) ws ((n - 1) * 4))
-
-pub put-in-place : PutInPlace
-put-in-place ws n rs h room =
-    put-row rs ws n h ∙ sets-eq (words rs) ws ((n - 1) * 4) (omega (arith, length-words rs))
-    ∙ ap (λ (k : ℕ). take ((n - 1) * 4) ws ++ words rs ++ drop ((n - 1) * 4 + k) ws) (length-words rs)
 
 -- from record 1 on
 pub put-first : (ws : List ℕ) (rs : List Record) → 4 * length rs ≤ length ws → putRecords ws 1 rs ≡ words rs ++ drop (length (words rs)) ws

@@ -1,10 +1,9 @@
 -- Records written into lent words; record n, which counts from 1, has words (n - 1) * 4 to n * 4 - 1.
 use Prim.Native.Nat.{ℕ, _+_, _-_, _*_, _^_, _≤_, _<_}
 use mathlib.Core.Bool.{cond}
-use mathlib.Core.List.{List, [], _∷_, _++_}
-use mathlib.Core.Path.{_≡_}
+use mathlib.Core.List.{List, [], _∷_}
 use lib.Dec.{eqb}
-use lib.ListN.{length, take, drop}
+use lib.ListN.{length}
 use lib.Seq.{sets}
 use Rattle.layout.specs.Records.{Record, words, lineKind}
 
@@ -31,10 +30,3 @@ lineRecord last n mask = record { kind = lineKind; mask = mask; lines = 0; next 
 unfoldable pub linesUpTo : ℕ → ℕ → List ℕ → List Record
 linesUpTo last n [] = []
 linesUpTo last n (m ∷ ms) = lineRecord last n m ∷ linesUpTo last (n + 1) ms
-
--- claimed, and proved in proofs/WritingLaws.antt: where there is room, the words before record n stay, then come those of the
--- records, and those after them stay
-abbrev pub PutInPlace : Type 0
-PutInPlace =
-    (ws : List ℕ) (n : ℕ) (rs : List Record) → 0 < n → (n - 1) * 4 + 4 * length rs ≤ length ws
-    → putRecords ws n rs ≡ take ((n - 1) * 4) ws ++ words rs ++ drop ((n - 1) * 4 + 4 * length rs) ws

@@ -116,8 +116,8 @@ fn join_step(r: Record, above: SoFar, after: usize) -> Step
     })
 }
 
-// Record n, a pair of signals that never occur together, whose words must name the record `after` as the next; 0 if there is
-// none.
+// Record n, a pair of signals that never occur together, whose words must name the record `after` as the next; 0 if
+// there is none.
 fn exclusion_step(r: Record, above: SoFar, n: usize, after: usize) -> Step
     ensures { λ s. ⌜ stepMeaning s ≡ exclusionStep n (recordMeaning r) (soFarMeaning above) after ⌝ }
 {
@@ -184,7 +184,8 @@ fn next_node(words: &[u32], from: usize) -> usize
     0
 }
 
-// Yes only for a record that is a sound line of a policy of this mask. One that gets a no is judged as every other record.
+// Yes only for a record that is a sound line of a policy of this mask. One that gets a no is judged as every other
+// record.
 fn is_sound_line(words: &[u32], i: usize, mask: u16) -> bool
     requires { ⌜ i * 4 + 4 ≤ length (now words) ⌝ }
     ensures { λ r. ⌜ YesPasses (now (words .entry)) i mask r ⌝ }

@@ -1,5 +1,5 @@
-// The program `listing`: a book on standard input; for each of its conditions the listing and its choice, or that it was
-// declined, on standard output.
+// The program `listing`: a book on standard input; for each of its conditions the listing and its choice, or that it
+// was declined, on standard output.
 use printing::print;
 use printing::print_checked;
 use printing::print_choice;

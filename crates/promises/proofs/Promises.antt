@@ -1,5 +1,6 @@
 -- Each promise is the law of its name.
 use Rattle.layout.proofs.SoundListings.{sound-listings}
+use Rattle.rod.proofs.Trees.{sound-reading}
 use Rattle.rod.proofs.SingleCalls.{single-calls}
 use Rattle.checks.proofs.OnePass.{one-pass}
 use Rattle.peal.proofs.Equality.{equality-is-published}
@@ -40,6 +41,7 @@ promises =
       nothingLost = nothing-lost;
       inRange = read-in-range;
       listings = sound-listings;
+      trees = sound-reading;
       sound = compiled-sound;
       words = words-fit;
       records = records-are-few;

@@ -5,6 +5,7 @@ use mathlib.Core.List.{List}
 use mathlib.Core.Path.{_≡_}
 use Rattle.answers.specs.Answers.{result}
 use Rattle.layout.specs.SoundListings.{SoundListings}
+use Rattle.rod.specs.SoundReading.{SoundReading}
 use Rattle.rod.specs.SingleCalls.{SingleCalls}
 use Rattle.checks.specs.OnePass.{OnePass}
 use Rattle.peal.specs.Policies.{Book}
@@ -68,6 +69,8 @@ pub record Promises : Type 0 where
   pub inRange : (bytes : List ℕ) (b : Book) → read bytes ≡ result b → BookInRange b
   -- a sound listing is that of its pairs and its tree, word for word, and such listings are sound
   pub listings : SoundListings
+  -- on it the rod gives the value of its tree
+  pub trees : SoundReading
   -- what compiling leaves is sound
   pub sound : CompiledSound
   -- its words fit 32 bits

@@ -9,13 +9,12 @@ use Rattle.arith.specs.Trees.{postfix, treeValue, run}
 use Rattle.arith.proofs.Trees.{run-tree}
 use Rattle.arith.specs.Leaves.{leafCount}
 use Rattle.layout.specs.Records.{words}
-use Rattle.layout.specs.Judgement.{verdict}
 use Rattle.layout.specs.Nodes.{ListedNode, listing}
 use Rattle.layout.specs.WellFormed.{ListedTree, TreeFits, PairsFit}
 use Rattle.layout.proofs.Soundness.{tree-sound}
 use Rattle.layout.proofs.ListedLaws.{nodes-listing}
-use Rattle.layout.proofs.SoundNodes.{sound-tree}
 use Rattle.rod.specs.Reading.{policyValue, joined, says, rodAnswer}
+use Rattle.rod.specs.SoundReading.{SoundReading}
 
 reading-tree : (t : ListedTree) (set : ℕ) → getD (run joined (policyValue set) (postfix t) []) 0 false ≡ treeValue joined (policyValue set) t
 unfolding run
@@ -29,7 +28,7 @@ pub rod-tree : (pairs : List ℕ) (t : ListedTree) (set : ℕ) → PairsFit pair
 unfolding rodAnswer says
 rod-tree pairs t set fit fits room = rw (tree-sound pairs t fit fits room, nodes-listing, reading-tree) refl
 
--- on any sound listing it gives the value of the tree that it is the listing of
-pub rod-sound : (ws : List ℕ) (set : ℕ) (h : verdict ws ≡ result tt) → rodAnswer ws set ≡ result (treeValue joined (policyValue set) (sound-tree ws h .tree))
+-- on any sound listing it gives the value of the tree whose nodes are read from it
+pub sound-reading : SoundReading
 unfolding rodAnswer says
-rod-sound ws set h = rw (h, sound-tree ws h .same, reading-tree) refl
+sound-reading ws h of set = rw (h, of .same, reading-tree) refl

@@ -1,4 +1,5 @@
 pub mod Reading
+pub mod SoundReading
 pub mod Traversing
 pub mod SingleCalls
 pub mod Meaning

@@ -1,1 +1,2 @@
-// Same lines, same policy: what the lines of two compiled policies tell of their decisions, as theorems. There is no code.
+// Same lines, same policy: what the lines of two compiled policies tell of their decisions, as theorems. There is no
+// code.

@@ -1,6 +1,5 @@
-// The scored decision on a book's bytes, and the score itself, for loggers.
-// `decide` and `evaluate` are the calls, and take every byte string, condition number and signal set. The modules are this
-// crate's own.
+// The scored decision on a book's bytes, and the score itself, for loggers. `decide` and `evaluate` are the calls, and
+// take every byte string, condition number and signal set. The modules are this crate's own.
 mod exact;
 mod expressions;
 mod policies;

@@ -13,8 +13,8 @@ ghost use Rattle.text.specs.Parsing.{LeadingRead, PairRead, ExpressionRe
 // The most codes that an expression of a line can have. The lent cells are as many.
 pub const CODE_COUNT: usize = 31;
 
-// There is a code for each node, in the order left, right, join: these are for `min`, `max` and policy 0, and policy n has
-// one that is n more.
+// There is a code for each node, in the order left, right, join: these are for `min`, `max` and policy 0, and policy n
+// has one that is n more.
 const MIN_CODE: u32 = 0;
 
 pub const MAX_CODE: u32 = 1;

@@ -9,25 +9,13 @@ use Rattle.compiler.specs.Compiling.{compiled, returned, lentAfter}
 use Rattle.compiler.proofs.compile.Statement.{statement}
 use Rattle.compiler.proofs.compile.Tie as tie
 
-ask-requires : tie.Need-ask-requires
-ask-requires c κs = search needs
-
 -- what was asked for, in an arm
 arm : (c : tie.After-ask) (a : Asked) → c .ask .result ≡ a → let s = c .before .before .before .before in
     AskedAs (now (s .args .bytes)) (s .args .condition) (c .ask .last .1 .1 .0) a
 arm c a e = subst (AskedAs _ _ _) e (c .ask .ensures)
 
-enum-known-asked : tie.Need-enum-known-asked
-enum-known-asked c = search needs
-
 compile-condition-requires : tie.Need-compile-condition-requires
 compile-condition-requires c κs = let a = c .before .before .before in arm (a .before .before) _ (a .asked .given .1) .kept
-
-enum-known-asked-2 : tie.Need-enum-known-asked-2
-enum-known-asked-2 c = search needs
-
-same-length : tie.Need-same-length
-same-length c = search needs
 
 returns : tie.Need-returns
 unfolding compiled
@@ -48,14 +36,10 @@ returns-2 c =
     let same = on-equal _ (arm (a .before .before) _ (a .asked2 .given .1)) in
     record { returning = ap returned same; leaving = ap (lentAfter _) same }
 
+-- the other needs are found by search
 pub compile-spec : {M : Type 1} → statement M
 compile-spec =
     tie.close
     (tie.spec
-    ask-requires
-    enum-known-asked
-    compile-condition-requires
-    enum-known-asked-2
-    same-length
-    returns
-    returns-2)
+    (λ c κs. search needs) (λ c. search needs) compile-condition-requires (λ c. search needs) (λ c. search needs)
+    returns returns-2)

@@ -18,9 +18,6 @@ use Rattle.compiler.proofs.RoomLaws.{room-part, room-returned, room-len
 use Rattle.compiler.proofs.compile_condition.Statement.{statement}
 use Rattle.compiler.proofs.compile_condition.Tie as tie
 
-count-records-requires : tie.Need-count-records-requires
-count-records-requires c κs = search needs
-
 mul-if1 : tie.Need-mul-if1
 mul-if1 c = omega (arith, c .count-records .ensures .small)
 
@@ -67,9 +64,6 @@ put-nodes-requires c κs =
     let k = start q .pre in
     (counted q .count-records .ensures .nodes, (k, room-part (room q k) _ _ (omega arith) (omega (arith, listing-count k _ (pairs q k))) (search needs)))
 
-same-length : tie.Need-same-length
-same-length c = search needs
-
 returns-2 : tie.Need-returns-2
 returns-2 c =
     let p = c .before .before in
@@ -88,16 +82,10 @@ returns-2 c =
           ∙ room-lent (listingRecords (h .book) (h .condition)) w (omega (arith, room q h .room)),
     )
 
+-- the other needs are found by search
 pub compile-condition-spec : {M : Type 1} → statement M
 compile-condition-spec =
     tie.close
     (tie.spec
-    count-records-requires
-    mul-if1
-    returns
-    exclusion-count-requires
-    put-exclusions-requires
-    add-put-nodes
-    put-nodes-requires
-    same-length
-    returns-2)
+    (λ c κs. search needs) mul-if1 returns exclusion-count-requires put-exclusions-requires add-put-nodes
+    put-nodes-requires (λ c. search needs) returns-2)

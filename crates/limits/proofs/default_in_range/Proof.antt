@@ -8,12 +8,10 @@ use borrow.Author.Needs.{needs}
 use Rattle.limits.proofs.default_in_range.Statement.{statement}
 use Rattle.limits.proofs.default_in_range.Tie as tie
 
-within-requires : tie.Need-within-requires
-within-requires c κs = search needs
-
 returns : tie.Need-returns
 unfolding defaultInRange
 returns c = c .within .ensures ∙ ap (within (negℤ (pos 10000)) (pos 10000)) (toZ-ofZ w32 _ (c .before .fits .d))
 
+-- the other needs are found by search
 pub default-in-range-spec : {M : Type 1} → statement M
-default-in-range-spec = tie.close (tie.spec within-requires returns)
+default-in-range-spec = tie.close (tie.spec (λ c κs. search needs) returns)

@@ -7,14 +7,8 @@ use Rattle.limits.specs.Limits.{signalInRange}
 use Rattle.limits.proofs.exclusion_in_range.Statement.{statement}
 use Rattle.limits.proofs.exclusion_in_range.Tie as tie
 
-signal-in-range-requires : tie.Need-signal-in-range-requires
-signal-in-range-requires c κs = search needs
-
 returns : tie.Need-returns
 returns c = rw (sym (c .before .signal-in-range .ensures) ∙ not-true _ (c .if1 .taken)) refl
-
-signal-in-range-requires-2 : tie.Need-signal-in-range-requires-2
-signal-in-range-requires-2 c κs = search needs
 
 -- the first signal is in range
 first-fits : (c : tie.Else1) → signalInRange (c .before .before .args .a) ≡ true
@@ -26,7 +20,8 @@ returns-2 c = rw (first-fits (c .before .before), sym (c .before .signal-in-rang
 returns-3 : tie.Need-returns-3
 returns-3 c = rw (first-fits (c .before .before), sym (c .before .signal-in-range2 .ensures) ∙ not-false _ (c .if2 .left)) refl
 
+-- the other needs are found by search
 pub exclusion-in-range-spec : {M : Type 1} → statement M
 exclusion-in-range-spec =
     tie.close
-    (tie.spec signal-in-range-requires returns signal-in-range-requires-2 returns-2 returns-3)
+    (tie.spec (λ c κs. search needs) returns (λ c κs. search needs) returns-2 returns-3)

@@ -8,9 +8,6 @@ use Rattle.limits.specs.Limits.{roomForRule}
 use Rattle.limits.proofs.room_for_rule.Statement.{statement}
 use Rattle.limits.proofs.room_for_rule.Tie as tie
 
-enum-told : tie.Need-enum-told
-enum-told c = search needs
-
 returns : tie.Need-returns
 unfolding roomForRule
 returns c = rw (c .enum-told .given .1)
@@ -19,5 +16,6 @@ returns-2 : tie.Need-returns-2
 unfolding roomForRule
 returns-2 c = let a = c .before .args in other-operator (λ (o : Operator). true ≡ roomForRule o (a .n)) (a .o) (c .match .keys2) refl refl refl
 
+-- the other needs are found by search
 pub room-for-rule-spec : {M : Type 1} → statement M
-room-for-rule-spec = tie.close (tie.spec enum-told returns returns-2)
+room-for-rule-spec = tie.close (tie.spec (λ c. search needs) returns returns-2)

@@ -8,30 +8,6 @@ use borrow.Author.Needs.{needs}
 use Rattle.limits.proofs.score_in_range.Statement.{statement}
 use Rattle.limits.proofs.score_in_range.Tie as tie
 
-enum-told : tie.Need-enum-told
-enum-told c = search needs
-
-within-requires : tie.Need-within-requires
-within-requires c κs = search needs
-
-enum-told-2 : tie.Need-enum-told-2
-enum-told-2 c = search needs
-
-within-requires-2 : tie.Need-within-requires-2
-within-requires-2 c κs = search needs
-
-enum-told-3 : tie.Need-enum-told-3
-enum-told-3 c = search needs
-
-within-requires-3 : tie.Need-within-requires-3
-within-requires-3 c κs = search needs
-
-enum-told-4 : tie.Need-enum-told-4
-enum-told-4 c = search needs
-
-within-requires-4 : tie.Need-within-requires-4
-within-requires-4 c κs = search needs
-
 returns : tie.Need-returns
 unfolding scoreInRange
 returns c = rw (c .before .enum-told .given .1) (c .within .ensures ∙ ap (within (negℤ (pos 10000)) (pos 10000)) (toZ-ofZ w32 _ (c .before .before .before .fits .v)))
@@ -48,19 +24,10 @@ returns-4 : tie.Need-returns-4
 unfolding scoreInRange
 returns-4 c = rw (c .before .enum-told4 .given .1) (c .within4 .ensures ∙ ap (within (pos 0) (pos 100)) (toZ-ofZ w32 _ (c .before .before .before .fits .v)))
 
+-- the other needs are found by search
 pub score-in-range-spec : {M : Type 1} → statement M
 score-in-range-spec =
     tie.close
     (tie.spec
-    enum-told
-    within-requires
-    enum-told-2
-    within-requires-2
-    enum-told-3
-    within-requires-3
-    enum-told-4
-    within-requires-4
-    returns
-    returns-2
-    returns-3
-    returns-4)
+    (λ c. search needs) (λ c κs. search needs) (λ c. search needs) (λ c κs. search needs) (λ c. search needs)
+    (λ c κs. search needs) (λ c. search needs) (λ c κs. search needs) returns returns-2 returns-3 returns-4)

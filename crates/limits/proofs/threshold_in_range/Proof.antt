@@ -7,11 +7,9 @@ use borrow.Author.Needs.{needs}
 use Rattle.limits.proofs.threshold_in_range.Statement.{statement}
 use Rattle.limits.proofs.threshold_in_range.Tie as tie
 
-within-requires : tie.Need-within-requires
-within-requires c κs = search needs
-
 returns : tie.Need-returns
 returns c = c .within .ensures ∙ ap thresholdInRange (toZ-ofZ w32 _ (c .before .fits .t))
 
+-- the other needs are found by search
 pub threshold-in-range-spec : {M : Type 1} → statement M
-threshold-in-range-spec = tie.close (tie.spec within-requires returns)
+threshold-in-range-spec = tie.close (tie.spec (λ c κs. search needs) returns)

@@ -31,21 +31,9 @@ tested s t e = tested-le w64 (s .args .v) (s .args .w) t (s .fits .v) (s .fits .
 fits : (s : tie.Start) (o : Operator) → s .args .o ≡ o → SFits w64 (combinedOf o (s .args .v) (s .args .w))
 fits s o e = small-fits _ (subst (λ (x : Operator). mag (combinedOf x (s .args .v) (s .args .w)) ≤ 10 ^ 16) e (s .pre))
 
-enum-told : tie.Need-enum-told
-enum-told c = search needs
-
-enum-told-2 : tie.Need-enum-told-2
-enum-told-2 c = search needs
-
-enum-told-3 : tie.Need-enum-told-3
-enum-told-3 c = search needs
-
 add-result : tie.Need-add-result
 unfolding combinedOf
 add-result c = let s = c .before .before in both-fit w64 _+ℤ_ (s .args .v) (s .args .w) (s .fits .v) (s .fits .w) (fits s _ (c .enum-told3 .given .1))
-
-enum-told-4 : tie.Need-enum-told-4
-enum-told-4 c = search needs
 
 mul-result : tie.Need-mul-result
 unfolding combinedOf
@@ -75,19 +63,10 @@ returns-6 c =
     let s = c .before .before in
     both-back w64 _*ℤ_ (s .args .v) (s .args .w) (s .fits .v) (s .fits .w) (fits s _ (c .enum-told4 .given .1)) ∙ matched s _ (c .enum-told4 .given .1)
 
+-- the other needs are found by search
 pub combined-spec : {M : Type 1} → statement M
 combined-spec =
     tie.close
     (tie.spec
-    enum-told
-    enum-told-2
-    enum-told-3
-    add-result
-    enum-told-4
-    mul-result
-    returns
-    returns-2
-    returns-3
-    returns-4
-    returns-5
-    returns-6)
+    (λ c. search needs) (λ c. search needs) (λ c. search needs) add-result (λ c. search needs) mul-result returns
+    returns-2 returns-3 returns-4 returns-5 returns-6)

@@ -9,12 +9,6 @@ use Rattle.compiler.proofs.PairLaws.{two-bits}
 use Rattle.compiler.proofs.exclusions.pair_mask.Statement.{statement}
 use Rattle.compiler.proofs.exclusions.pair_mask.Tie as tie
 
-first-at-requires : tie.Need-first-at-requires
-first-at-requires c κs = search needs
-
-second-at-requires : tie.Need-second-at-requires
-second-at-requires c κs = search needs
-
 -- the two are signals
 module _ (c : tie.After-second-at) where
   abbrev start : tie.Start
@@ -53,5 +47,8 @@ returns c =
     let k = b .before in
     λ xs h. two-bits _ (k .before .first-at .ensures xs h) (k .second-at .ensures xs h) (b .bit .ensures) (c .bit2 .ensures)
 
+-- the other needs are found by search
 pub pair-mask-spec : {M : Type 1} → statement M
-pair-mask-spec = tie.close (tie.spec first-at-requires second-at-requires bit-requires bit-requires-2 add-result returns)
+pair-mask-spec =
+    tie.close
+    (tie.spec (λ c κs. search needs) (λ c κs. search needs) bit-requires bit-requires-2 add-result returns)

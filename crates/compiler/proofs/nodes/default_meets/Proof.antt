@@ -12,12 +12,6 @@ use Rattle.peal.specs.declared.Sense.{Sense}
 use Rattle.compiler.proofs.nodes.default_meets.Statement.{statement}
 use Rattle.compiler.proofs.nodes.default_meets.Tie as tie
 
-enum-told : tie.Need-enum-told
-enum-told c = search needs
-
-enum-told-2 : tie.Need-enum-told-2
-enum-told-2 c = search needs
-
 returns : tie.Need-returns
 unfolding meets scaled
 returns c =
@@ -34,5 +28,6 @@ returns-2 c =
     ap₂ leZ (toZ-ofZ w32 (a .default) (s .fits .default)) (toZ-ofZ w32 (a .threshold) (s .fits .threshold)) ∙ sym (leZ-scale (a .default) (a .threshold) (10 ^ 14) (omega arith))
     ∙ ap (λ (x : Sense). meets x (a .threshold) (scaled (a .default))) (sym (c .enum-told2 .given .1))
 
+-- the other needs are found by search
 pub default-meets-spec : {M : Type 1} → statement M
-default-meets-spec = tie.close (tie.spec enum-told enum-told-2 returns returns-2)
+default-meets-spec = tie.close (tie.spec (λ c. search needs) (λ c. search needs) returns returns-2)

@@ -10,12 +10,6 @@ use Rattle.compiler.proofs.nodes.is_turned.Tie as tie
 rises-requires : tie.Need-rises-requires
 rises-requires c κs = tt
 
-enum-told : tie.Need-enum-told
-enum-told c = search needs
-
-enum-told-2 : tie.Need-enum-told-2
-enum-told-2 c = search needs
-
 returns : tie.Need-returns
 unfolding turned
 returns c = let r = c .before .before in r .rises .ensures ∙ ap (λ (s : Sense). turned s (r .before .args .operator)) (sym (c .enum-told .given .1))
@@ -24,5 +18,6 @@ returns-2 : tie.Need-returns-2
 unfolding turned
 returns-2 c = let r = c .before .before in ap not (r .rises .ensures) ∙ ap (λ (s : Sense). turned s (r .before .args .operator)) (sym (c .enum-told2 .given .1))
 
+-- the other needs are found by search
 pub is-turned-spec : {M : Type 1} → statement M
-is-turned-spec = tie.close (tie.spec rises-requires enum-told enum-told-2 returns returns-2)
+is-turned-spec = tie.close (tie.spec rises-requires (λ c. search needs) (λ c. search needs) returns returns-2)

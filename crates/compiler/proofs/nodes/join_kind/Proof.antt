@@ -6,12 +6,6 @@ use Rattle.compiler.proofs.MentionLaws.{is-larger, is-smaller}
 use Rattle.compiler.proofs.nodes.join_kind.Statement.{statement}
 use Rattle.compiler.proofs.nodes.join_kind.Tie as tie
 
-enum-told : tie.Need-enum-told
-enum-told c = search needs
-
-enum-told-2 : tie.Need-enum-told-2
-enum-told-2 c = search needs
-
 returns : tie.Need-returns
 unfolding joinKind joinOf
 returns c = λ m e. rw (c .before .enum-told .given .1, is-larger m e (c .if1 .taken))
@@ -28,5 +22,6 @@ returns-4 : tie.Need-returns-4
 unfolding joinKind joinOf
 returns-4 c = λ m e. rw (c .before .enum-told2 .given .1, is-smaller m e (c .if2 .left))
 
+-- the other needs are found by search
 pub join-kind-spec : {M : Type 1} → statement M
-join-kind-spec = tie.close (tie.spec enum-told enum-told-2 returns returns-2 returns-3 returns-4)
+join-kind-spec = tie.close (tie.spec (λ c. search needs) (λ c. search needs) returns returns-2 returns-3 returns-4)

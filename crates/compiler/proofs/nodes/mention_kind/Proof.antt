@@ -9,15 +9,6 @@ use Rattle.peal.specs.Score.{scaled, meets}
 use Rattle.compiler.proofs.nodes.mention_kind.Statement.{statement}
 use Rattle.compiler.proofs.nodes.mention_kind.Tie as tie
 
-default-meets-requires : tie.Need-default-meets-requires
-default-meets-requires c κs = search needs
-
-is-turned-requires : tie.Need-is-turned-requires
-is-turned-requires c κs = search needs
-
-policy-kind-requires : tie.Need-policy-kind-requires
-policy-kind-requires c κs = search needs
-
 returns : tie.Need-returns
 returns c =
     let t = c .before in
@@ -29,6 +20,6 @@ returns c =
     (m .default-meets .ensures ∙ ap₂ (λ (x y : ℤ). meets (a .sense) x (scaled y)) (toZ-ofZ w32 (a .threshold) (s .fits .threshold)) (toZ-ofZ w32 (a .default) (s .fits .default)))
     (t .is-turned .ensures)
 
+-- the other needs are found by search
 pub mention-kind-spec : {M : Type 1} → statement M
-mention-kind-spec =
-    tie.close (tie.spec default-meets-requires is-turned-requires policy-kind-requires returns)
+mention-kind-spec = tie.close (tie.spec (λ c κs. search needs) (λ c κs. search needs) (λ c κs. search needs) returns)

@@ -43,9 +43,6 @@ returns c h =
     s .pre .1 h j (w .loop-test .taken)
     ∙ same-lines h (s .args .i) j (f .code-at .result) (f .code-at .ensures (h .condition) (condition-held h)) (sym (c .before .if1 .taken) ∙ e .code-at2 .ensures (h .condition) (condition-held h))
 
-add-j : tie.Need-add-j Inv-loop μ-loop
-add-j c = search needs
-
 loop-less : tie.Need-loop-less Inv-loop μ-loop
 loop-less c = omega (arith, c .before .before .loop-test .taken)
 
@@ -58,20 +55,10 @@ node-lines-requires c κs = c .before .before .before .pre .0
 returns-2 : tie.Need-returns-2 Inv-loop μ-loop
 returns-2 c h = c .node-lines .ensures h
 
+-- the other needs are found by search
 pub next-lines-spec : {M : Type 1} → statement M
 next-lines-spec =
     tie.close
     (tie.spec
-    Inv-loop
-    μ-loop
-    code-at-requires
-    loop-holds
-    code-at-requires-2
-    mul-result
-    element-copy-out-result
-    returns
-    add-j
-    loop-less
-    loop-again
-    node-lines-requires
-    returns-2)
+    Inv-loop μ-loop code-at-requires loop-holds code-at-requires-2 mul-result element-copy-out-result returns
+    (λ c. search needs) loop-less loop-again node-lines-requires returns-2)

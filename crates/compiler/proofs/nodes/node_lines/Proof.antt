@@ -27,9 +27,6 @@ code c h = c .code-at .ensures (h .condition) (condition-held h)
 returns : tie.Need-returns
 returns c = λ h. sym (no-lines h (c .before .before .args .i) (c .before .code-at .result) (code (c .before) h) (c .if1 .taken))
 
-cast-k : tie.Need-cast-k
-cast-k c = search needs
-
 threshold-at-requires : tie.Need-threshold-at-requires
 threshold-at-requires c κs = c .before .before .pre .0
 
@@ -56,7 +53,8 @@ returns-2 c =
     c .count-lines .ensures (policy-kept h (s .args .i) n (code (e .before) h) (e .if1 .left) (inside s h))
     ∙ sym (mention-lines h (s .args .i) n (code (e .before) h) (e .if1 .left) _ (same t h))
 
+-- the other needs are found by search
 pub node-lines-spec : {M : Type 1} → statement M
 node-lines-spec =
     tie.close
-    (tie.spec code-at-requires returns cast-k threshold-at-requires count-lines-requires returns-2)
+    (tie.spec code-at-requires returns (λ c. search needs) threshold-at-requires count-lines-requires returns-2)

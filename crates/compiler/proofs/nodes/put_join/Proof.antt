@@ -9,21 +9,6 @@ use Rattle.compiler.specs.Nodes.{oneNode}
 use Rattle.compiler.proofs.nodes.put_join.Statement.{statement}
 use Rattle.compiler.proofs.nodes.put_join.Tie as tie
 
-join-kind-requires : tie.Need-join-kind-requires
-join-kind-requires c κs = search needs
-
-add-number-if : tie.Need-add-number-if
-add-number-if c = search needs
-
-number-if-requires : tie.Need-number-if-requires
-number-if-requires c κs = search needs
-
-put-record-requires : tie.Need-put-record-requires
-put-record-requires c κs = search needs
-
-same-length : tie.Need-same-length
-same-length c = search needs
-
 returns : tie.Need-returns
 unfolding putRecords oneNode
 returns c =
@@ -36,13 +21,10 @@ returns c =
     ∙ ap (λ (x : ℕ). putRecord (now (a .words)) (a .at) (record { kind = k .join-kind .result; mask = 0; lines = 0; next = x })) (n .number-if .ensures)
     ∙ ap (λ (x : ℕ). putRecord (now (a .words)) (a .at) (record { kind = x; mask = 0; lines = 0; next = cond (a .more) (a .at + 1) 0 })) (k .join-kind .ensures m e)
 
+-- the other needs are found by search
 pub put-join-spec : {M : Type 1} → statement M
 put-join-spec =
     tie.close
     (tie.spec
-    join-kind-requires
-    add-number-if
-    number-if-requires
-    put-record-requires
-    same-length
+    (λ c κs. search needs) (λ c. search needs) (λ c κs. search needs) (λ c κs. search needs) (λ c. search needs)
     returns)

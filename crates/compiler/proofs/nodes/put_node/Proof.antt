@@ -58,9 +58,6 @@ put-join-requires c κs =
 threshold-at-requires : tie.Need-threshold-at-requires
 threshold-at-requires c κs = start (c .before) .pre .0 .kept .0
 
-cast-k : tie.Need-cast-k
-cast-k c = search needs
-
 -- the threshold, as it is passed
 same : (c : tie.After-threshold-at) → let s = start (c .before .before) in
     (h : ConditionKept (now (s .args .cells)) (s .args .n)) → toZ w32 (ofZ w32 (c .threshold-at .result)) ≡ h .condition .threshold
@@ -75,9 +72,6 @@ put-policy-requires c κs =
     let k = s .pre .0 .kept in
     (lines-kept (k .0) (s .args .i) (r .before .code-at .result) (code r (k .0)) (e .if1 .left) (k .1) _ (same t (k .0)) (s .args .count) (s .pre .0 .lines (k .0)), s .pre .1)
 
-same-length : tie.Need-same-length
-same-length c = search needs
-
 returns : tie.Need-returns
 returns c =
     let j = c .before .before in
@@ -89,9 +83,6 @@ returns c =
     let m = join-here h (a .i) (r .before .code-at .result) (code r h) (e .if1 .taken) _ (sense r h) in
     j .put-join .ensures (m .0) (m .1)
     ∙ ap₂ (λ (b : Bool) (x : ListedNode). putRecords (now (a .words)) (a .at) (oneNode (a .at) b x)) (more r h) (sym (m .2))
-
-same-length-2 : tie.Need-same-length-2
-same-length-2 c = search needs
 
 returns-2 : tie.Need-returns-2
 unfolding lines-kept policy-kept
@@ -107,19 +98,10 @@ returns-2 c =
     p .put-policy .ensures (lines-kept h (a .i) n (code r h) (e .if1 .left) (inside r h) _ (same t h) (a .count) (s .pre .0 .lines h))
     ∙ ap₂ (λ (b : Bool) (x : ListedNode). putRecords (now (a .words)) (a .at) (oneNode (a .at) b x)) (more r h) (sym (mention-here h (a .i) n (code r h) (e .if1 .left) _ _ (sense r h) (same t h)))
 
+-- the other needs are found by search
 pub put-node-spec : {M : Type 1} → statement M
 put-node-spec =
     tie.close
     (tie.spec
-    sense-at-requires
-    code-at-requires
-    length-at-requires
-    add-more
-    put-join-requires
-    cast-k
-    threshold-at-requires
-    put-policy-requires
-    same-length
-    returns
-    same-length-2
-    returns-2)
+    sense-at-requires code-at-requires length-at-requires add-more put-join-requires (λ c. search needs)
+    threshold-at-requires put-policy-requires (λ c. search needs) returns (λ c. search needs) returns-2)

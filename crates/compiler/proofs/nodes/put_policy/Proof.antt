@@ -33,9 +33,6 @@ operator-at-requires c κs = c .before .pre .0 .kept
 default-at-requires : tie.Need-default-at-requires
 default-at-requires c κs = c .before .before .pre .0 .kept
 
-mention-kind-requires : tie.Need-mention-kind-requires
-mention-kind-requires c κs = search needs
-
 -- the kind, from the operator and the default that are read
 kind : (c : tie.After-mention-kind) → let s = c .before .before .before .before in
     (h : LinesKept (now (s .args .cells)) (s .args .k) (s .args .threshold) (s .args .count))
@@ -53,9 +50,6 @@ kind c h =
 
 mask-at-requires : tie.Need-mask-at-requires
 mask-at-requires c κs = c .before .before .before .before .pre .0 .kept
-
-cast-mask : tie.Need-cast-mask
-cast-mask c = search needs
 
 add-number-if : tie.Need-add-number-if
 add-number-if c = let s = c .before .before .before .before .before in omega (arith, s .pre .1 .numbers)
@@ -90,9 +84,6 @@ put-lines-requires c κs =
           (ap length (c .before .before .before .put-record .ensures) ∙ put-length (now (s .args .words)) (s .args .at) _),
     )
 
-same-length : tie.Need-same-length
-same-length c = search needs
-
 returns : tie.Need-returns
 unfolding read-back
 returns c h =
@@ -113,22 +104,11 @@ returns c h =
       next = n .number-if2 .ensures i;
     })
 
+-- the other needs are found by search
 pub put-policy-spec : {M : Type 1} → statement M
 put-policy-spec =
     tie.close
     (tie.spec
-    operator-at-requires
-    default-at-requires
-    mention-kind-requires
-    mask-at-requires
-    cast-mask
-    add-number-if
-    number-if-requires
-    add-number-if-2
-    add-number-if-3
-    number-if-requires-2
-    put-record-requires
-    add-put-lines
-    put-lines-requires
-    same-length
-    returns)
+    operator-at-requires default-at-requires (λ c κs. search needs) mask-at-requires (λ c. search needs) add-number-if
+    number-if-requires add-number-if-2 add-number-if-3 number-if-requires-2 put-record-requires add-put-lines
+    put-lines-requires (λ c. search needs) returns)

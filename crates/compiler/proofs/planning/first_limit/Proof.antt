@@ -11,9 +11,6 @@ use Rattle.compiler.proofs.LimitLaws.{clamped-limit}
 use Rattle.compiler.proofs.planning.first_limit.Statement.{statement}
 use Rattle.compiler.proofs.planning.first_limit.Tie as tie
 
-enum-told : tie.Need-enum-told
-enum-told c = search needs
-
 clamped-requires : tie.Need-clamped-requires
 clamped-requires c κs = tt
 
@@ -34,5 +31,6 @@ returns-2 c =
     let t = s .args .threshold in
     wide-back t (s .fits .threshold) ∙ other-operator (λ (o : Operator). t ≡ limitOf o t 0) (s .args .operator) (c .match .keys2) refl refl refl
 
+-- the other needs are found by search
 pub first-limit-spec : {M : Type 1} → statement M
-first-limit-spec = tie.close (tie.spec enum-told clamped-requires returns cast-result returns-2)
+first-limit-spec = tie.close (tie.spec (λ c. search needs) clamped-requires returns cast-result returns-2)

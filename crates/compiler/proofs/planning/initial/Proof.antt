@@ -5,18 +5,6 @@ use Rattle.compiler.specs.Worth.{initial}
 use Rattle.compiler.proofs.planning.initial.Statement.{statement}
 use Rattle.compiler.proofs.planning.initial.Tie as tie
 
-enum-told : tie.Need-enum-told
-enum-told c = search needs
-
-enum-told-2 : tie.Need-enum-told-2
-enum-told-2 c = search needs
-
-enum-told-3 : tie.Need-enum-told-3
-enum-told-3 c = search needs
-
-enum-told-4 : tie.Need-enum-told-4
-enum-told-4 c = search needs
-
 returns : tie.Need-returns
 unfolding initial
 returns c = ap initial (sym (c .enum-told .given .1))
@@ -33,7 +21,10 @@ returns-4 : tie.Need-returns-4
 unfolding initial
 returns-4 c = ap initial (sym (c .enum-told4 .given .1))
 
+-- the other needs are found by search
 pub initial-spec : {M : Type 1} → statement M
 initial-spec =
     tie.close
-    (tie.spec enum-told enum-told-2 enum-told-3 enum-told-4 returns returns-2 returns-3 returns-4)
+    (tie.spec
+    (λ c. search needs) (λ c. search needs) (λ c. search needs) (λ c. search needs) returns returns-2 returns-3
+    returns-4)

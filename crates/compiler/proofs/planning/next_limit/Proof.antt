@@ -18,9 +18,6 @@ use Rattle.compiler.proofs.planning.next_limit.Tie as tie
 hundred : (s : tie.Start) → SFits w64 (s .args .limit *ℤ pos 100)
 hundred s = hundredfold-fits (s .args .limit) (s .pre)
 
-enum-told : tie.Need-enum-told
-enum-told c = search needs
-
 mul-result : tie.Need-mul-result
 mul-result c = let s = c .before .before in both-fit w64 _*ℤ_ (s .args .limit) (pos 100) (s .fits .limit) (record { sfits = omega arith }) (hundred s)
 
@@ -37,5 +34,6 @@ returns-2 c t k e =
     toZ-ofZ w64 (s .args .limit) (s .fits .limit) ∙ e
     ∙ other-operator (λ (o : Operator). limitOf o t k ≡ limitOf o t (k + 1)) (s .args .operator) (c .match .keys2) refl refl refl
 
+-- the other needs are found by search
 pub next-limit-spec : {M : Type 1} → statement M
-next-limit-spec = tie.close (tie.spec enum-told mul-result returns returns-2)
+next-limit-spec = tie.close (tie.spec (λ c. search needs) mul-result returns returns-2)

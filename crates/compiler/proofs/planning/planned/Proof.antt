@@ -88,9 +88,6 @@ loop-holds c =
 
 -- ---- a turn
 
-add-rules : tie.Need-add-rules Inv-loop μ-loop
-add-rules c = search needs
-
 sub-i : tie.Need-sub-i Inv-loop μ-loop
 sub-i c = omega (arith, c .loop-test .taken)
 
@@ -198,30 +195,12 @@ returns c h =
           λ k e. subst (λ (t : ℤ). Row (l .loop .plan) (q o h) t k) (back (start o)) (l .loop .inv .1 h .rows k (omega (arith, c .loop-test .left, all o h)));
     }
 
+-- the other needs are found by search
 pub planned-spec : {M : Type 1} → statement M
 planned-spec =
     tie.close
     (tie.spec
-    Inv-loop
-    μ-loop
-    policy-at-requires
-    in-rank-order-requires
-    first-limit-requires
-    initial-requires
-    put-row-requires
-    loop-holds
-    add-rules
-    sub-i
-    mul-signal
-    element-copy-out-signal
-    mul-score
-    element-copy-out-score
-    cast-score
-    bit-requires
-    cast-bit
-    next-limit-requires
-    combined-requires
-    put-row-requires-2
-    loop-less
-    loop-again
+    Inv-loop μ-loop policy-at-requires in-rank-order-requires first-limit-requires initial-requires put-row-requires
+    loop-holds (λ c. search needs) sub-i mul-signal element-copy-out-signal mul-score element-copy-out-score
+    cast-score bit-requires cast-bit next-limit-requires combined-requires put-row-requires-2 loop-less loop-again
     returns)

@@ -26,18 +26,6 @@ hundred s = hundredfold-fits (s .args .value) (s .pre)
 matched : (s : tie.Start) (o : Operator) → s .args .operator ≡ o → reachedOf o (s .args .limit) (s .args .value) ≡ reachedOf (s .args .operator) (s .args .limit) (s .args .value)
 matched s o e = ap (λ (x : Operator). reachedOf x (s .args .limit) (s .args .value)) (sym e)
 
-enum-told : tie.Need-enum-told
-enum-told c = search needs
-
-enum-told-2 : tie.Need-enum-told-2
-enum-told-2 c = search needs
-
-enum-told-3 : tie.Need-enum-told-3
-enum-told-3 c = search needs
-
-enum-told-4 : tie.Need-enum-told-4
-enum-told-4 c = search needs
-
 mul-result : tie.Need-mul-result
 mul-result c = let s = c .before .before in both-fit w64 _*ℤ_ (s .args .value) (pos 100) (s .fits .value) (record { sfits = omega arith }) (hundred s)
 
@@ -60,7 +48,10 @@ returns-4 c =
     ap₂ leZ (both-back w64 _*ℤ_ (s .args .value) (pos 100) (s .fits .value) (record { sfits = omega arith }) (hundred s)) (limit-back s)
     ∙ matched s _ (c .enum-told4 .given .1)
 
+-- the other needs are found by search
 pub is-reached-spec : {M : Type 1} → statement M
 is-reached-spec =
     tie.close
-    (tie.spec enum-told enum-told-2 enum-told-3 enum-told-4 mul-result returns returns-2 returns-3 returns-4)
+    (tie.spec
+    (λ c. search needs) (λ c. search needs) (λ c. search needs) (λ c. search needs) mul-result returns returns-2
+    returns-3 returns-4)

@@ -13,18 +13,6 @@ use Rattle.compiler.specs.Searching.{BitFits}
 use Rattle.compiler.proofs.searching.next_mask.Statement.{statement}
 use Rattle.compiler.proofs.searching.next_mask.Tie as tie
 
-mul-result : tie.Need-mul-result
-mul-result c = search needs
-
-add-result : tie.Need-add-result
-add-result c = search needs
-
-mul-result-2 : tie.Need-mul-result-2
-mul-result-2 c = search needs
-
-element-copy-out-result : tie.Need-element-copy-out-result
-element-copy-out-result c = search needs
-
 -- the bit, as it is read back
 back : (c : tie.After-result) → let a = c .before .args in planBit (now (a .plan)) (a .left) ≡ toZ w64 (ofZ w64 (planBit (now (a .plan)) (a .left)))
 back c = let a = c .before .args in sym (toZ-ofZ w64 (planBit (now (a .plan)) (a .left)) (record { sfits = c .result .given }))
@@ -41,7 +29,9 @@ add-result-2 c = record { fits = fits c .sum }
 returns : tie.Need-returns
 returns c = ap (λ (b : ℤ). c .before .args .mask + natAbs b) (sym (back c))
 
+-- the other needs are found by search
 pub next-mask-spec : {M : Type 1} → statement M
 next-mask-spec =
     tie.close
-    (tie.spec mul-result add-result mul-result-2 element-copy-out-result cast-result add-result-2 returns)
+    (tie.spec
+    (λ c. search needs) (λ c. search needs) (λ c. search needs) (λ c. search needs) cast-result add-result-2 returns)

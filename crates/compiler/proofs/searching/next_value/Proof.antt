@@ -9,21 +9,6 @@ use Rattle.compiler.specs.Planning.{planScore}
 use Rattle.compiler.proofs.searching.next_value.Statement.{statement}
 use Rattle.compiler.proofs.searching.next_value.Tie as tie
 
-mul-combined : tie.Need-mul-combined
-mul-combined c = search needs
-
-add-combined : tie.Need-add-combined
-add-combined c = search needs
-
-mul-combined-2 : tie.Need-mul-combined-2
-mul-combined-2 c = search needs
-
-element-copy-out-combined : tie.Need-element-copy-out-combined
-element-copy-out-combined c = search needs
-
-combined-requires : tie.Need-combined-requires
-combined-requires c κs = search needs
-
 returns : tie.Need-returns
 returns c =
     let s = c .before .before in
@@ -31,6 +16,9 @@ returns c =
     ∙ ap₂ (combinedOf (s .args .operator)) (toZ-ofZ w64 (s .args .value) (s .fits .value))
     (toZ-ofZ w64 (planScore (now (s .args .plan)) (s .args .left)) (record { sfits = c .before .combined-arg .given }))
 
+-- the other needs are found by search
 pub next-value-spec : {M : Type 1} → statement M
 next-value-spec =
-    tie.close (tie.spec mul-combined add-combined mul-combined-2 element-copy-out-combined combined-requires returns)
+    tie.close
+    (tie.spec
+    (λ c. search needs) (λ c. search needs) (λ c. search needs) (λ c. search needs) (λ c κs. search needs) returns)
