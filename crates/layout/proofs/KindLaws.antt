@@ -1,9 +1,11 @@
 -- Kinds and their numbers.
-use Prim.Native.Nat.{ℕ, _+_, _-_, _*_}
-use mathlib.Core.Bool.{Bool, true, false, cond}
-use mathlib.Core.Path.{_≡_, refl}
+use Prim.Native.Nat.{ℕ, zero, suc, _+_, _-_, _*_, _≤_, _<_}
+use mathlib.Core.Bool.{Bool, true, false, not, cond}
+use mathlib.Core.Path.{_≡_, refl, subst}
+use native.Mathlib.Omega.{arith}
+use lib.Bits.{bitAnd}
 use lib.Dec.{eqb}
-use borrow.Author.Tests.{eqb-true}
+use borrow.Author.Tests.{eqb-true, ne-eqb}
 use mir.Val.{boolByte}
 use Rattle.layout.specs.Records.{Join, and, or, Kind, policy, line, exclusion, unknown, oneIf, lineKind, joinKind, exclusionKind, policyKind, kindOf}
 
@@ -28,6 +30,35 @@ kind-join or = refl
 pub kind-exclusion : kindOf exclusionKind ≡ exclusion
 unfolding kindOf lineKind joinKind policyKind oneIf exclusionKind
 kind-exclusion = refl
+
+-- a policy's flags are the two lowest bits of its number
+abbrev flagged : ℕ → Kind
+flagged k = policy (not (eqb (bitAnd k 1) 0)) (not (eqb (bitAnd k 2) 0))
+
+pub policy-number : (k : ℕ) → 16 ≤ k → k < 20 → flagged k ≡ kindOf k
+unfolding kindOf lineKind joinKind exclusionKind policyKind oneIf
+policy-number k l h = let e : 16 + (k - 16) ≡ k = omega arith in subst (λ (n : ℕ). flagged n ≡ kindOf n) e (go (k - 16) (omega arith))
+  where
+    go : (m : ℕ) → m < 4 → flagged (16 + m) ≡ kindOf (16 + m)
+    go zero h = refl
+    go (suc zero) h = refl
+    go (suc (suc zero)) h = refl
+    go (suc (suc (suc zero))) h = refl
+    go (suc (suc (suc (suc m)))) h = absurd (omega arith)
+
+pub no-number : (k : ℕ) → (k ≡ 4 → ⊥) → (k ≡ 2 → ⊥) → (k ≡ 3 → ⊥) → (k ≡ 5 → ⊥) → (16 ≤ k → k < 20 → ⊥) → unknown ≡ kindOf k
+unfolding kindOf lineKind joinKind exclusionKind policyKind oneIf
+no-number k l a o e p =
+    simp (
+      ne-eqb k 4 l,
+      ne-eqb k 2 a,
+      ne-eqb k 3 o,
+      ne-eqb k 5 e,
+      ne-eqb k 16 (λ s. p (omega arith) (omega arith)),
+      ne-eqb k 17 (λ s. p (omega arith) (omega arith)),
+      ne-eqb k 18 (λ s. p (omega arith) (omega arith)),
+      ne-eqb k 19 (λ s. p (omega arith) (omega arith)),
+    )
 
 -- ---- what a kind says of its number
 

@@ -38,12 +38,8 @@ const QUIET: u32 = 1;
 // Added if it is turned.
 const TURNED: u32 = 2;
 
-// A policy that is the one, the other, and both.
-const QUIET_POLICY: u32 = POLICY + QUIET;
-
-const TURNED_POLICY: u32 = POLICY + TURNED;
-
-const QUIET_TURNED_POLICY: u32 = POLICY + QUIET + TURNED;
+// A policy that is both.
+const LAST_POLICY: u32 = POLICY + QUIET + TURNED;
 
 // What a record is by its first word.
 pub enum Kind {
@@ -55,7 +51,6 @@ pub enum Kind {
     Unknown,
 }
 
-// A policy has an arm for each pair of flags: by one arm for all four the rod would read a listing up to a sixth slower.
 pub fn kind_of(number: u32) -> Kind
     ensures { λ r. ⌜ kindMeaning r ≡ kindOf number ⌝ }
 {
@@ -64,21 +59,9 @@ pub fn kind_of(number: u32) -> Kind
         AND => Kind::And,
         OR => Kind::Or,
         EXCLUSION => Kind::Exclusion,
-        POLICY => Kind::Policy {
-            quiet: false,
-            turned: false,
-        },
-        QUIET_POLICY => Kind::Policy {
-            quiet: true,
-            turned: false,
-        },
-        TURNED_POLICY => Kind::Policy {
-            quiet: false,
-            turned: true,
-        },
-        QUIET_TURNED_POLICY => Kind::Policy {
-            quiet: true,
-            turned: true,
+        POLICY..=LAST_POLICY => Kind::Policy {
+            quiet: number & QUIET != 0,
+            turned: number & TURNED != 0,
         },
         _ => Kind::Unknown,
     }
