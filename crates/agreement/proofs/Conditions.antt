@@ -1,4 +1,4 @@
--- The rod's answer on a condition's listing is the decision: min and max of scores become and and or of answers.
+-- The rod's answer on a condition's listing is the decision: min and max of scores become "and" and "or" of answers.
 use Prim.Native.Nat.{ℕ, _+_, _≤_}
 use mathlib.Core.Bool.{Bool}
 use mathlib.Core.List.{List, map}

@@ -1,4 +1,4 @@
--- Laws of tests over lists: that any member passes, and that every member does.
+-- Laws of tests over lists: that some member passes, and that every member does.
 use Prim.Native.Nat.{ℕ, _+_, _≤_, _<_}
 use mathlib.Core.Bool.{Bool, true, false, not, cond, _&&_, _||_, or-assoc, and-assoc}
 use mathlib.Core.List.{List, [], _∷_, _++_, map, List·Memᴰ, List·Memᴰ·head, List·Memᴰ·tail}

@@ -9,7 +9,7 @@ use lib.Seq.{drop-cons}
 use Rattle.arith.proofs.Padding.{padded-get}
 use Rattle.peal.specs.Policies.{Rule, Policy}
 use Rattle.peal.specs.Standins.{noRule}
-use Rattle.book.specs.Ranges.{signalsOf, PolicyByValue}
+use Rattle.book.specs.Ranges.{signalsOf, PolicyInRange}
 use Rattle.book.specs.Cells.{storedPolicy}
 use Rattle.book.specs.declared.cells.Policy.{Policy as StoredPolicy}
 use Rattle.book.proofs.RangeLaws.{rules-at-most}
@@ -55,5 +55,5 @@ module _ (p : StoredPolicy) (q : Policy) (e : p ≡ storedPolicy q) where
 
 -- ---- of a policy in range
 
-pub kept-count : (p : StoredPolicy) → PolicyByValue p → p .count ≤ 16
+pub kept-count : (p : StoredPolicy) → (q : Policy) × (p ≡ storedPolicy q) × PolicyInRange q → p .count ≤ 16
 kept-count p k = omega (arith, count-is p (k .0) (k .1), rules-at-most (k .0) (k .2))

@@ -15,8 +15,7 @@ use Rattle.text.specs.Codes.{codesOf}
 use Rattle.limits.specs.Limits.{exclusionInRange, defaultInRange, scoreInRange, thresholdInRange}
 use Rattle.book.specs.Acceptance.{mentionsBelow}
 use Rattle.book.specs.Books.{conditionAt}
-use Rattle.book.specs.Cells.{PolicyCells, ExclusionCells, BookCells, storedPolicy, mostPolicies, mostExclusions}
-use Rattle.book.specs.declared.cells.Policy.{Policy as StoredPolicy}
+use Rattle.book.specs.Cells.{PolicyCells, ExclusionCells, BookCells, mostPolicies, mostExclusions}
 
 -- the signals of some rules
 abbrev pub signalsOf : List Rule → List ℕ
@@ -84,7 +83,3 @@ ExclusionKept cells i = (h : ExclusionsKept cells) × (i < length (h .exclusions
 
 abbrev pub CodeKept : List ℤ → ℕ → ℕ → Type 0
 CodeKept cells n i = (h : ConditionKept cells n) × (i < length (codesOf (h .condition .expression)))
-
--- a policy by value is that of one in range
-abbrev pub PolicyByValue : StoredPolicy → Type 0
-PolicyByValue p = (q : Policy) × (p ≡ storedPolicy q) × PolicyInRange q

@@ -30,7 +30,7 @@ type Values = [u64; VALUE_WORDS];
 // How many sets a group has.
 pub const GROUP_SETS: u32 = GROUP_BLOCKS * blocks::BLOCK_SETS;
 
-// The last group: its number is that of the six highest signals.
+// The last group: it has all of the six highest signals.
 pub const HIGHEST_GROUP: u32 = signals::HIGHEST_SET / GROUP_SETS;
 
 // How many excluded pairs the listing begins with.

@@ -1,5 +1,5 @@
--- Every promise that is a theorem, beyond the contracts of the calls; a reviewer reads this file first. A field's type is a claim, and the
--- claim's own file says the words that it is made of. Proved in proofs/Promises.antt.
+-- Every promise that is a theorem, beyond the contracts of the calls; a reviewer reads this file first. A field's type is a claim, but for
+-- `inRange`, and the claim's own file says the words that it is made of. Proved in proofs/Promises.antt.
 use Prim.Native.Nat.{ℕ}
 use mathlib.Core.List.{List}
 use mathlib.Core.Path.{_≡_}

@@ -47,7 +47,7 @@ turn3 c = turn2 (c .before .before .before)
 abbrev turn4 : tie.After-add-mask4 Inv-loop μ-loop → tie.In-loop Inv-loop μ-loop
 turn4 c = turn3 (c .before .before .before)
 
--- the word so far on is a mask, and a signal set
+-- the word `on` places further is a mask, and a signal set
 mask-on : (t : tie.In-loop Inv-loop μ-loop) (on : ℕ) → on % 4 ≡ 1 → on < 16
     → let a = t .before .before .before .args in SetAndGroup (getD (now (a .words)) (t .before .loop .place + on) 0) (a .group)
 mask-on t on e h =

@@ -1,4 +1,4 @@
--- `layout::judging::if_any`.
+-- `layout::judging::if_any`: the record at the index is there or not.
 use Rattle.layout.proofs.Places.{any-there, any-end}
 use borrow.Author.Needs.{needs}
 use Rattle.layout.proofs.judging.if_any.Statement.{statement}

@@ -1,4 +1,4 @@
--- `layout::judging::if_line`.
+-- `layout::judging::if_line`: the record at the index is there or not, and is a line or not.
 use Rattle.layout.proofs.Places.{line-there, line-not, line-end}
 use borrow.Author.Needs.{needs}
 use Rattle.layout.proofs.judging.if_line.Statement.{statement}
