@@ -12,7 +12,7 @@ use Rattle.arith.proofs.Tests.{clash, and-swap, or_right, or_swap}
 module _ {A : Type 0} (test : A → Bool) where
   -- ---- some member passes
 
-  pub exists-in : {xs : List A} {x : A} → Memᴰ x xs → test x ≡ true → exists test xs ≡ true
+  pub exists-in : {x : A} {xs : List A} → Memᴰ x xs → test x ≡ true → exists test xs ≡ true
   exists-in (Memᴰ.head e) h = rw (sym (ap test e) ∙ h)
   exists-in (Memᴰ.tail {x = y} {xs = xs} m) h = or_right (test y) (exists test xs) (exists-in m h)
 

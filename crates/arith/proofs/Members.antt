@@ -12,7 +12,7 @@ module _ {A : Type 0} (P : A → Type 0) where
   each_in [] h = tt
   each_in (x ∷ xs) h = (h x (Memᴰ.head refl), each_in xs (λ y m. h y (Memᴰ.tail m)))
 
-  pub each-out : {xs : List A} {x : A} → Each P xs → Memᴰ x xs → P x
+  pub each-out : {x : A} {xs : List A} → Each P xs → Memᴰ x xs → P x
   each-out h (Memᴰ.head e) = subst P (sym e) h.0
   each-out h (Memᴰ.tail m) = each-out h.1 m
 
@@ -25,7 +25,7 @@ module _ {A : Type 0} (test : A → Bool) where
   each-every [] h = tt
   each-every (x ∷ xs) h = (and_left (test x) (every test xs) h, each-every xs (and_right (test x) (every test xs) h))
 
-  pub keep-in : {xs : List A} {x : A} → Memᴰ x xs → test x ≡ true → Memᴰ x (keep test xs)
+  pub keep-in : {x : A} {xs : List A} → Memᴰ x xs → test x ≡ true → Memᴰ x (keep test xs)
   keep-in (Memᴰ.head e) h = rw (sym (ap test e) ∙ h) (Memᴰ.head e)
   keep-in {x = x} (Memᴰ.tail {x = y} {xs = xs} m) h = go (test y) (keep-in m h)
     where

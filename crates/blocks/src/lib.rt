@@ -1,5 +1,7 @@
 // A block is the 64 sets from 64 * block on. A word of 64 bits tells one thing of each of them: bit j is for the set
 // 64 * block + j. So the six lowest signals have the same patterns in every block. For the crates above.
+#![tactic(auto)]
+
 ghost use Rattle.std.specs.Prelude.{not, ◌&&◌, ◌||◌, ◌≡◌, ◌+◌, ◌≤◌, ◌<◌};
 ghost use Rattle.arith.specs.Lists.{count_below};
 ghost use Rattle.signals.specs.Sets.{present, overlap};

@@ -65,7 +65,7 @@ lines_fit n m so (r ∷ rest) o h = go (kind_of r.kind) (sound-step n so r rest 
     go unknown e s ih = tt
 
 -- each of them is a signal set inside the mask
-pub line-fits : (mask : ℕ) {ls : List ℕ} {l : ℕ} → LinesFit mask ls → Memᴰ l ls → (l ≤ 65535) × (inside l mask ≡ true)
+pub line-fits : (mask : ℕ) {l : ℕ} {ls : List ℕ} → LinesFit mask ls → Memᴰ l ls → (l ≤ 65535) × (inside l mask ≡ true)
 line-fits mask h (Memᴰ.head e) = rw e (h.0, h.1)
 line-fits mask h (Memᴰ.tail m) = line-fits mask h.2 m
 

@@ -19,7 +19,7 @@ const JOINED: usize = 2;
 
 // What stands above a record: whether a line here belongs to a policy, and that policy's mask; the values to be taken;
 // the policies.
-#[derive(Drop)]
+#[derive(Clone, Copy)]
 struct SoFar {
     owned: bool,
     mask: u16,
@@ -28,7 +28,7 @@ struct SoFar {
 }
 
 // A record keeps to the layout, and this stands above the next one; or it breaks the layout.
-#[derive(Drop)]
+#[derive(Clone, Copy)]
 enum Step {
     Next(SoFar),
     Breaks,

@@ -1,5 +1,7 @@
 // The listing part: the words of a listing, which record breaks the layout first, and the writing of records.
 // `check` is for every caller; the other public items are for the crates above.
+#![tactic(auto)]
+
 mod judging;
 mod records;
 mod writing;
@@ -9,7 +11,7 @@ pub use records::{AND, EXCLUSION, Kind, MASK, NEXT, OR, RECORD_WORDS, kind_of, p
 pub use writing::{put_line, put_record};
 
 // Why a listing is declined.
-#[derive(Drop)]
+#[derive(Clone, Copy)]
 pub enum Fault {
     // The listing has no words, or not a multiple of four.
     Length,
@@ -23,7 +25,7 @@ pub const BAD_LENGTH: u64 = 9;
 pub const BAD_RECORD: u64 = 10;
 
 // The verdict on the words handed in.
-#[derive(Drop)]
+#[derive(Clone, Copy)]
 pub enum Verdict {
     Sound,
     Declined(Fault),

@@ -40,7 +40,7 @@ const TURNED: u32 = 2;
 const LAST_POLICY: u32 = POLICY + QUIET + TURNED;
 
 // What a record is by its first word.
-#[derive(Drop)]
+#[derive(Clone, Copy)]
 pub enum Kind {
     Line,
     And,
@@ -74,7 +74,7 @@ pub fn policy_kind(quiet: bool, turned: bool) -> u32
 }
 
 // A record's four words.
-#[derive(Drop)]
+#[derive(Clone, Copy)]
 pub struct Record {
     pub kind: u32,
     pub mask: u32,

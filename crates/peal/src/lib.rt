@@ -1,12 +1,14 @@
 // The published language: the operators of policies and the senses of conditions. For the crates above, by which scores
 // an operator ranks, and the operator over two scores.
+#![tactic(auto)]
+
 ghost use Rattle.std.specs.Prelude.{◌≡◌, ◌^◌, ◌≤◌};
 ghost use Rattle.std.specs.Int.Signed.{mag};
 ghost use Rattle.peal.specs.Combining.{combined_of};
 ghost use Rattle.peal.specs.Ranking.{rises as rises_of};
 
 // How a policy combines the scores of its rules: `sum` is Peal's +, `mul` its *.
-#[derive(Drop)]
+#[derive(Clone, Copy)]
 pub enum Operator {
     Min,
     Max,
@@ -15,7 +17,7 @@ pub enum Operator {
 }
 
 // What a condition asks of the score: to be above the threshold (`c T < E`) or at most the threshold (`c T >= E`).
-#[derive(Drop)]
+#[derive(Clone, Copy)]
 pub enum Sense {
     Above,
     AtMost,

@@ -1,3 +1,4 @@
 pub mod SetLaws
 pub mod SetOfLaws
 pub mod BitLaws
+pub mod PairLaws

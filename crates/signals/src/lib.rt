@@ -1,4 +1,6 @@
 // Signal sets, as bits of a number. The functions are for the crates above.
+#![tactic(auto)]
+
 ghost use Rattle.std.specs.Prelude.{◌&&◌, [], ◌∷◌, ◌≡◌, ◌≤◌};
 ghost use Rattle.signals.specs.Sets.{is_set, present, inside, is_pair, set_of};
 

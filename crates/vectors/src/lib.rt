@@ -1,4 +1,6 @@
 // Reading vectors from lines of text, for the program of cases.
+#![tactic(auto)]
+
 ghost use Rattle.std.specs.Prelude.{◌≤◌, length};
 
 // The largest number of a vector.
@@ -8,7 +10,7 @@ const LARGEST: u32 = 4294967295;
 pub const SETS: usize = 65536;
 
 // A number in a line, and the index after the byte that ends it.
-#[derive(Drop)]
+#[derive(Clone, Copy)]
 struct Number {
     value: u32,
     next: usize,
@@ -53,7 +55,7 @@ pub fn signal_set(number: u32) -> u16 {
 }
 
 // What a vector asks of a book: a condition and one number more, and where the book begins.
-#[derive(Drop)]
+#[derive(Clone, Copy)]
 pub struct BookVector {
     pub condition: u32,
     pub number: u32,

@@ -11,5 +11,5 @@ unfolding set_of
 returns c = omega (arith, bit_is c.args.signal 32 (omega arith))
 
 -- the other needs are found by search
-pub bit-spec : {M : Type 1} → statement M
-bit-spec = tie.close (tie.spec (λ c. search rules) returns)
+pub bit_spec : {M : Type 1} → statement M
+bit_spec = tie.close (tie.spec (λ c. search rules) returns)

@@ -13,5 +13,5 @@ unfolding present
 returns c = ap (λ (x : ℕ). eqb x 1) (and_mask (c.args.set / 2 ^ c.args.signal) 1)
 
 -- the other needs are found by search
-pub is-present-spec : {M : Type 1} → statement M
-is-present-spec = tie.close (tie.spec (λ c. search rules) returns)
+pub is_present_spec : {M : Type 1} → statement M
+is_present_spec = tie.close (tie.spec (λ c. search rules) returns)

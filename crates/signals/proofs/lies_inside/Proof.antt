@@ -8,5 +8,5 @@ use Rattle.signals.proofs.lies_inside.Tie as tie
 returns : tie.Need-returns
 returns c = sym (set-inside-and c.args.mask c.args.set (omega arith))
 
-pub lies-inside-spec : {M : Type 1} → statement M
-lies-inside-spec = tie.close (tie.spec returns)
+pub lies_inside_spec : {M : Type 1} → statement M
+lies_inside_spec = tie.close (tie.spec returns)
