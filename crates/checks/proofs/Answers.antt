@@ -107,12 +107,12 @@ module _ (ws : List ℕ) where
   sought b e o = o ∙ ap (λ (t : Bool). lowest_set (gives ws (not t))) (sym e)
 
   -- of what the empty set gives it is the lowest set, since it has no pair
-  pub chosen_by : verdict ws ≡ result tt → (b : Bool) → b ≡ says ws 0 → (other : Option ℕ) → other ≡ lowest_set (gives ws (not (says ws 0)))
+  pub chosen-by : verdict ws ≡ result tt → (b : Bool) → b ≡ says ws 0 → (other : Option ℕ) → other ≡ lowest_set (gives ws (not (says ws 0)))
       → (j : ℕ) → j ≡ count_below (sought_to other) (permitted ws) → chosen_by b other j ≡ chosen ws
-  chosen_by v true e other o j h =
+  chosen-by v true e other o j h =
       let empty-gives = lowest-zero (gives ws true) (rw (permitted-zero ws v, ← e) refl) in
       counted (choice_of (some 0) other) (answered v (some 0) other empty-gives (sym (sought true e o))) j (sought_to other) h (yes-first other)
-  chosen_by v false e other o j h =
+  chosen-by v false e other o j h =
       let empty-gives = lowest-zero (gives ws false) (rw (permitted-zero ws v, ← e) refl) in
       counted (choice_of other (some 0)) (answered v other (some 0) (sym (sought false e o)) empty-gives) j (sought_to other) h (no-first other)
 

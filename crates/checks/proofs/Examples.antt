@@ -13,7 +13,7 @@ use Rattle.signals.specs.Sets.{present}
 use Rattle.checks.specs.Checks.{permitted, always, never, both, chosen, gives, first, second, differ, declined, comparison}
 use Rattle.checks.specs.OnePass.{started, take_set, pass_from}
 use Rattle.checks.specs.Computing.{checks_compute}
-use Rattle.checks.proofs.Answers.{chosen_by}
+use Rattle.checks.proofs.Answers.{chosen-by}
 use Rattle.checks.proofs.Search.{nowhere}
 
 -- yes exactly where signal s, of weight w, is present; and the same turned over
@@ -86,7 +86,7 @@ holds = 17 ∷ 0 ∷ 0 ∷ 0 ∷ []
 
 judged-all : result (record { choice = always; judged = 65536 }) ≡ chosen holds
 unfolding checks_compute
-judged-all = chosen_by holds refl true refl none (nowhere (gives holds false) (λ set. refl)) 65536 (sym (count-all (permitted holds) 65536 (λ set. refl)))
+judged-all = chosen-by holds refl true refl none (nowhere (gives holds false) (λ set. refl)) 65536 (sym (count-all (permitted holds) 65536 (λ set. refl)))
 
 -- only sets with the pair give yes: never, and of each four sets three are judged, 49,152 of all
 no-set : (set : ℕ) → gives excludes true set ≡ false
@@ -111,7 +111,7 @@ three-of-four = count-again (permitted excludes) 4 16384 (λ i. ap₂ (λ (a b :
 
 judged-never : result (record { choice = never; judged = 49152 }) ≡ chosen excludes
 unfolding checks_compute
-judged-never = chosen_by excludes refl false refl none (nowhere (gives excludes true) no-set) 49152 (sym three-of-four)
+judged-never = chosen-by excludes refl false refl none (nowhere (gives excludes true) no-set) 49152 (sym three-of-four)
 
 -- ---- the pass itself
 

@@ -1,7 +1,9 @@
 // The office's checks of a listing, and of two, over all signal sets without an excluded pair: in rising order, a group
 // of 1,024 sets at a time (docs/DECISIONS.md, D36). A listing is examined once and not for each group.
+#![tactic(auto)]
+
 ghost use Rattle.std.specs.Prelude.{not, cond, ◌≡◌, ◌≤◌, ◌<◌, eqb, get_or};
-ghost use Rattle.answers.specs.Answers.{result};
+ghost use Rattle.answers.specs.Answers.{result as answered};
 ghost use Rattle.signals.specs.Sets.{present};
 ghost use Rattle.blocks.specs.Blocks.{WordOf};
 ghost use Rattle.layout.specs.Judgement.{verdict};
@@ -14,7 +16,7 @@ ghost use Rattle.checks.specs.Walking.{found_meaning, chosen_by, HasBlocks, Four
 const GROUPS: u32 = groups::HIGHEST_GROUP + 1;
 
 // The lowest set, if there is one.
-#[derive(Drop)]
+#[derive(Clone, Copy)]
 enum Found {
     At(u16),
     Nowhere,
@@ -23,7 +25,7 @@ enum Found {
 // The sets of the group with an excluded pair of the sound listing, which begins with so many.
 fn group_barred(words: &[u32], pairs: usize, group: u32) -> groups::Table
     requires { SoundGroup words.now pairs group }
-    ensures* { λ r. ⌜ GroupOf (λ set. not (permitted words.now set)) group r ⌝ }
+    ensures { GroupOf (λ set. not (permitted words.now set)) group result }
 {
     let mut table = [0u64; groups::TABLE_WORDS];
     if pairs == 0 {
@@ -38,14 +40,14 @@ fn group_barred(words: &[u32], pairs: usize, group: u32) -> groups::Table
 fn lowest_in(block: u32, word: u64) -> u16
     requires block_bound { block ≤ 1023 }
     requires word_nonzero { 0 < word }
-    ensures* { λ r. ⌜ LowestIn block word r ⌝ }
+    ensures { LowestIn block word result }
 {
     (blocks::BLOCK_SETS * block + u64::trailing_zeros(word)) as u16
 }
 
 // The sets that are barred by neither, and on which the two differ.
 fn apart_word(barred: u64, also: u64, first: u64, second: u64) -> u64
-    ensures* { λ r. ⌜ WordOf (apart_bit barred also first second) r ⌝ }
+    ensures { WordOf (apart_bit barred also first second) result }
 {
     !barred & !also & (first ^ second)
 }
@@ -54,8 +56,8 @@ fn apart_word(barred: u64, also: u64, first: u64, second: u64) -> u64
 fn lowest_apart(barred: &[u64], also: &[u64], first: &[u64], second: &[u64], group: u32) -> Found
     requires group { IsGroup group }
     requires four_tables { FourTables barred.now also.now first.now second.now }
-    ensures* { λ r. ⌜ LowestInGroup group barred.now also.now
-        first.now second.now r ⌝ }
+    ensures { LowestInGroup group barred.now also.now
+        first.now second.now result }
 {
     let mut k: usize = 0;
     while k < groups::TABLE_WORDS {
@@ -69,7 +71,7 @@ fn lowest_apart(barred: &[u64], also: &[u64], first: &[u64], second: &[u64], gro
 }
 
 // Whether a listing leaves a choice; the last number of each is how many sets were judged.
-#[derive(Drop)]
+#[derive(Clone, Copy)]
 pub enum ChoiceAnswer {
     Always(u32),
     Never(u32),
@@ -82,7 +84,7 @@ pub enum ChoiceAnswer {
 // What the empty set gives: the first group tells it, whatever stood there before, and it is kept through the others.
 fn empty_gives(before: bool, values: &[u64], group: u32) -> bool
     requires { HasBlocks values.now }
-    ensures* { λ r. ⌜ r ≡ cond (eqb group 0) (present (get_or values.now 0 0) 0) before ⌝ }
+    ensures { result ≡ cond (eqb group 0) (present (get_or values.now 0 0) 0) before }
 {
     if group == 0 {
         values[0] & 1 == 1
@@ -96,7 +98,7 @@ fn empty_gives(before: bool, values: &[u64], group: u32) -> bool
 fn permitted_up_to(barred: &[u64], pairs: usize, last: u32) -> u32
     requires last_bound { last ≤ 1023 }
     requires has_blocks { HasBlocks barred.now }
-    ensures* { λ r. ⌜ PermittedUpTo barred.now pairs last r ⌝ }
+    ensures { PermittedUpTo barred.now pairs last result }
 {
     if pairs == 0 {
         return last + 1;
@@ -112,7 +114,7 @@ fn permitted_up_to(barred: &[u64], pairs: usize, last: u32) -> u32
 
 // From what the empty set gives, the lowest set that gives the other answer, and how many sets were judged.
 fn answer(empty: bool, other: Found, judged: u32) -> ChoiceAnswer
-    ensures* { λ r. ⌜ choice_meaning r ≡ chosen_by empty (found_meaning other) judged ⌝ }
+    ensures { choice_meaning result ≡ chosen_by empty (found_meaning other) judged }
 {
     match other {
         Found::At(set) => {
@@ -135,8 +137,8 @@ fn answer(empty: bool, other: Found, judged: u32) -> ChoiceAnswer
 // One pass. The empty set comes first and has no pair: so the pass has one of the two answers there, and the lowest set
 // that does not give the same is all that is left to find.
 fn sound_choice(words: &[u32]) -> ChoiceAnswer
-    requires { verdict words.now ≡ result tt }
-    ensures* { λ r. ⌜ choice_meaning r ≡ chosen words.now ⌝ }
+    requires { verdict words.now ≡ answered tt }
+    ensures { choice_meaning result ≡ chosen words.now }
 {
     let pairs = groups::pair_count(words);
     let mut values = [0u64; groups::VALUE_WORDS];
@@ -161,7 +163,7 @@ fn sound_choice(words: &[u32]) -> ChoiceAnswer
 }
 
 pub fn choice(words: &[u32]) -> ChoiceAnswer
-    ensures* { λ r. ⌜ choice_meaning r ≡ chosen words.now ⌝ }
+    ensures { choice_meaning result ≡ chosen words.now }
 {
     let verdict = layout::check(words);
     match verdict {
@@ -172,9 +174,9 @@ pub fn choice(words: &[u32]) -> ChoiceAnswer
 
 // The lowest set where the two sound listings differ.
 fn lowest_difference(one: &[u32], two: &[u32]) -> Found
-    requires one_value { verdict one.now ≡ result tt }
-    requires two_value { verdict two.now ≡ result tt }
-    ensures* { λ r. ⌜ found_meaning r ≡ lowest_set (differ_at one.now two.now) ⌝ }
+    requires one_value { verdict one.now ≡ answered tt }
+    requires two_value { verdict two.now ≡ answered tt }
+    ensures { found_meaning result ≡ lowest_set (differ_at one.now two.now) }
 {
     let pairs = groups::pair_count(one);
     let others = groups::pair_count(two);
@@ -196,7 +198,7 @@ fn lowest_difference(one: &[u32], two: &[u32]) -> Found
 }
 
 // How two listings compare.
-#[derive(Drop)]
+#[derive(Clone, Copy)]
 pub enum ComparisonAnswer {
     Alike,
     // The lowest set where they differ, and which listing says yes there.
@@ -208,9 +210,9 @@ pub enum ComparisonAnswer {
 }
 
 fn sound_comparison(one: &[u32], two: &[u32]) -> ComparisonAnswer
-    requires one_value { verdict one.now ≡ result tt }
-    requires two_value { verdict two.now ≡ result tt }
-    ensures* { λ r. ⌜ comparison_meaning r ≡ comparison one.now two.now ⌝ }
+    requires one_value { verdict one.now ≡ answered tt }
+    requires two_value { verdict two.now ≡ answered tt }
+    ensures { comparison_meaning result ≡ comparison one.now two.now }
 {
     let found = lowest_difference(one, two);
     match found {
@@ -227,7 +229,7 @@ fn sound_comparison(one: &[u32], two: &[u32]) -> ComparisonAnswer
 
 // The first listing is examined fully before the second.
 pub fn compare(one: &[u32], two: &[u32]) -> ComparisonAnswer
-    ensures* { λ r. ⌜ comparison_meaning r ≡ comparison one.now two.now ⌝ }
+    ensures { comparison_meaning result ≡ comparison one.now two.now }
 {
     let verdict = layout::check(one);
     match verdict {

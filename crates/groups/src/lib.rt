@@ -1,5 +1,7 @@
 // What a sound listing says of 1,024 sets at once. A group is 16 blocks, the sets from 1024 * group on, and a table has
 // a word for each block. The functions are for the crates above, and allocate nothing.
+#![tactic(auto)]
+
 ghost use Rattle.std.specs.Prelude.{◌||◌, ◌≡◌, ◌-◌, ◌/◌, ◌%◌, ◌<◌, eqb};
 ghost use Rattle.signals.specs.Sets.{present, inside, overlap};
 ghost use Rattle.blocks.specs.Blocks.{WordOf, LowTold};

@@ -1,7 +1,9 @@
 // The rod: what a listing says of a signal set, or of each set of a traverse. It knows the listing part and nothing of
 // books. `decide` and `traverse` are for every caller; `reading` and `next_index` are for the crates above.
+#![tactic(auto)]
+
 ghost use Rattle.std.specs.Prelude.{◌≡◌, ◌+◌, ◌/◌, ◌≤◌, ◌<◌, length};
-ghost use Rattle.answers.specs.Answers.{result};
+ghost use Rattle.answers.specs.Answers.{result as answered};
 ghost use Rattle.signals.specs.Sets.{inside};
 ghost use Rattle.layout.specs.Judgement.{verdict};
 ghost use Rattle.layout.specs.Nodes.{leading_lines};
@@ -15,7 +17,7 @@ ghost use Rattle.rod.specs.Values.{ValueAdded, LastJoined, join_meaning, mask_at
 fn is_inside(words: &[u32], i: usize, set: u16) -> bool
     requires i_in_bounds { i < length words.now / 4 }
     requires i_bound { mask_at words.now i ≤ 65535 }
-    ensures* { λ r. ⌜ r ≡ inside (mask_at words.now i) set ⌝ }
+    ensures { result ≡ inside (mask_at words.now i) set }
 {
     let line = words[i * layout::RECORD_WORDS + layout::MASK];
     line & set as u32 == line
@@ -27,7 +29,7 @@ const TURN_LINES: usize = 4;
 // Some line of the records from index `from` up to `end`, all of them lines, lies wholly inside the set.
 fn some_line(words: &[u32], from: usize, end: usize, set: u16) -> bool
     requires { LinesTo words.now from end }
-    ensures* { λ r. ⌜ r ≡ some_line (leading_lines (records_from words.now from)) set ⌝ }
+    ensures { result ≡ some_line (leading_lines (records_from words.now from)) set }
 {
     let mut i = from;
     while TURN_LINES <= end - i {
@@ -58,7 +60,7 @@ fn some_line(words: &[u32], from: usize, end: usize, set: u16) -> bool
 fn policy_value(words: &[u32], at: usize, end: usize, quiet: bool, turned: bool, set: u16) -> bool
     requires at_in_bounds { at < length words.now / 4 }
     requires lines_to { LinesTo words.now (at + 1) end }
-    ensures* { λ r. ⌜ r ≡ policy_value set (listed_at words.now at quiet turned) ⌝ }
+    ensures { result ≡ policy_value set (listed_at words.now at quiet turned) }
 {
     let mask = words[at * layout::RECORD_WORDS + layout::MASK];
     if mask & set as u32 != 0 {
@@ -72,14 +74,14 @@ fn policy_value(words: &[u32], at: usize, end: usize, quiet: bool, turned: bool,
 // One value more. Values are kept as bits, the last in the lowest bit.
 fn with_value(values: u32, value: bool) -> u32
     requires { values ≤ 65535 }
-    ensures* { λ r. ⌜ ValueAdded value values r ⌝ }
+    ensures { ValueAdded value values result }
 {
     if value { values * 2 + 1 } else { values * 2 }
 }
 
 // The last two values joined into one.
 fn with_join(values: u32, or: bool) -> u32
-    ensures* { λ r. ⌜ LastJoined (join_meaning or) values r ⌝ }
+    ensures { LastJoined (join_meaning or) values result }
 {
     let yes = values % 2 + values / 2 % 2;
     let rest = values / 4 * 2;
@@ -94,7 +96,7 @@ fn with_join(values: u32, or: bool) -> u32
 pub fn next_index(words: &[u32], at: usize) -> usize
     requires at_in_bounds { at < length words.now / 4 }
     requires node_at { NodeAt words.now at }
-    ensures* { λ r. ⌜ r ≡ node_end words.now at ⌝ }
+    ensures { result ≡ node_end words.now at }
 {
     let next = words[at * layout::RECORD_WORDS + layout::NEXT];
     if next == 0 {
@@ -108,7 +110,7 @@ pub fn next_index(words: &[u32], at: usize) -> usize
 fn after_node(words: &[u32], at: usize, end: usize, set: u16, values: u32) -> u32
     requires node_to { NodeTo words.now at end }
     requires reading_underway { ReadingUnderway words.now set at values }
-    ensures* { λ r. ⌜ ReadingUnderway words.now set end r ⌝ }
+    ensures { ReadingUnderway words.now set end result }
 {
     let kind = layout::kind_of(words[at * layout::RECORD_WORDS]);
     match kind {
@@ -125,8 +127,8 @@ fn after_node(words: &[u32], at: usize, end: usize, set: u16, values: u32) -> u3
 
 // What a sound listing says of the set. The crates above have had it checked.
 pub fn reading(words: &[u32], set: u16) -> bool
-    requires { verdict words.now ≡ result tt }
-    ensures* { λ r. ⌜ r ≡ says words.now set ⌝ }
+    requires { verdict words.now ≡ answered tt }
+    ensures { result ≡ says words.now set }
 {
     let mut values: u32 = 0;
     let mut at: usize = 0;
@@ -139,7 +141,7 @@ pub fn reading(words: &[u32], set: u16) -> bool
 }
 
 // The rod's answer.
-#[derive(Drop)]
+#[derive(Clone, Copy)]
 pub enum Decision {
     Yes,
     No,
@@ -148,7 +150,7 @@ pub enum Decision {
 }
 
 pub fn decide(words: &[u32], set: u16) -> Decision
-    ensures* { λ r. ⌜ rod_meaning r ≡ rod_answer words.now set ⌝ }
+    ensures { rod_meaning result ≡ rod_answer words.now set }
 {
     let verdict = layout::check(words);
     match verdict {
@@ -165,9 +167,9 @@ pub fn decide(words: &[u32], set: u16) -> Decision
 
 // Writes what the sound listing says of each set: 1 for yes, 0 for no.
 fn answer_all(words: &[u32], sets: &[u16], answers: &mut [u8])
-    requires words_value { verdict words.now ≡ result tt }
+    requires words_value { verdict words.now ≡ answered tt }
     requires sets_len { length sets.now ≡ length answers.old }
-    ensures* { λ r. ⌜ answers.new ≡ answers_to words.now sets.now ⌝ }
+    ensures { answers.new ≡ answers_to words.now sets.now }
 {
     let mut i: usize = 0;
     while i < sets.len() {
@@ -177,7 +179,7 @@ fn answer_all(words: &[u32], sets: &[u16], answers: &mut [u8])
 }
 
 // What a traverse returns.
-#[derive(Drop)]
+#[derive(Clone, Copy)]
 pub enum Traversed {
     // So many answers were written, one for each set.
     Answered(usize),
@@ -191,8 +193,8 @@ pub enum Traversed {
 pub const UNEQUAL: u64 = 11;
 
 pub fn traverse(words: &[u32], sets: &[u16], answers: &mut [u8]) -> Traversed
-    ensures* { λ r. ⌜ TraverseRan words.now sets.now answers.old
-        r answers.new ⌝ }
+    ensures { TraverseRan words.now sets.now answers.old
+        result answers.new }
 {
     if sets.len() != answers.len() {
         return Traversed::Unequal;
