@@ -7,7 +7,6 @@ use Rattle.book.specs.declared.Reason.TheVariants.{TooLong, NoForm, OutOfPlace, 
 use Rattle.book.specs.declared.Checked.{Checked}
 use Rattle.book.specs.declared.Checked.TheVariants.{Accepted, Refused}
 use Rattle.book.specs.declared.Declined.{Declined}
-use Rattle.book.specs.declared.Declined.TheVariants as Declined
 
 -- the number of a reason
 abbrev pub reason_number : Reason → ℕ

@@ -15,7 +15,7 @@ use text::{CODE_COUNT, POLICY_CODE};
 
 // What the lines so far leave for the next one, beside the cells: whether the line above is a `p` or an `r`, the
 // counts, and whether the first line is an `o`.
-#[derive(Drop)]
+#[derive(Clone, Copy)]
 pub struct SoFar {
     pub in_rules: bool,
     pub policies: usize,
@@ -24,7 +24,7 @@ pub struct SoFar {
 }
 
 // A line is fine, or refused for a reason.
-#[derive(Drop)]
+#[derive(Clone, Copy)]
 pub enum Verdict {
     Fine,
     Refused(Reason),

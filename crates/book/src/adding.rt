@@ -19,7 +19,7 @@ use text::{CODE_COUNT, Line, LineRead, Parsed, read_expression, read_line};
 const FULL_SCORE: i32 = 100;
 
 // A line is added, and this stands so far with it; or it is refused.
-#[derive(Drop)]
+#[derive(Clone, Copy)]
 pub enum Step {
     Added(SoFar),
     Refused(Reason),

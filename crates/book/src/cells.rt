@@ -66,7 +66,7 @@ pub const SENSE_ABOVE: i32 = 0;
 pub const SENSE_AT_MOST: i32 = 1;
 
 // A policy by value: its first `count` signals and scores are its rules.
-#[derive(Drop)]
+#[derive(Clone, Copy)]
 pub struct Policy {
     pub operator: peal::Operator,
     pub default: i32,

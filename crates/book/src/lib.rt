@@ -1,5 +1,7 @@
 // Books of evidence policies, as text. `check` is the call, and takes every byte string. The modules are this crate's
 // own; of their functions `ask` and those that read the cells of a read book are for the crates above.
+#![tactic(auto)]
+
 mod acceptance;
 mod adding;
 mod cells;
@@ -17,7 +19,7 @@ pub use cells::{
 pub use reading::{ask, check};
 
 // Why a line is refused, in the order in which a line is tried.
-#[derive(Drop)]
+#[derive(Clone, Copy)]
 pub enum Reason {
     // The book or the line is too long.
     TooLong,
@@ -47,14 +49,14 @@ pub fn reason_number(reason: Reason) -> u64
 }
 
 // Where a book is refused: the line counts from 1, and is 0 for the whole book.
-#[derive(Drop)]
+#[derive(Clone, Copy)]
 pub struct Refusal {
     pub reason: Reason,
     pub line: usize,
 }
 
 // What a check of a book tells.
-#[derive(Drop)]
+#[derive(Clone, Copy)]
 pub enum Checked {
     Accepted { policies: usize, conditions: usize },
     Refused(Refusal),
@@ -64,7 +66,7 @@ pub enum Checked {
 pub const NO_CONDITION: u64 = 7;
 
 // Why a condition that was asked for is not there.
-#[derive(Drop)]
+#[derive(Clone, Copy)]
 pub enum Declined {
     // The book was refused.
     Refused(Refusal),
@@ -73,7 +75,7 @@ pub enum Declined {
 }
 
 // A condition that was asked for, for the crates above.
-#[derive(Drop)]
+#[derive(Clone, Copy)]
 pub enum Asked {
     // The book is in the cells, and this is the condition's place there.
     Condition(usize),

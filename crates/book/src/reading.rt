@@ -1,6 +1,6 @@
 // A whole book: its lines, read from the top.
 ghost use Rattle.std.specs.Prelude.{◌≡◌};
-ghost use Rattle.answers.specs.Answers.{result, on_result};
+ghost use Rattle.answers.specs.Answers.{result as told, on_result};
 ghost use Rattle.book.specs.Adding.{added_meaning, counts_of};
 ghost use Rattle.book.specs.Asked.{AskedAs};
 ghost use Rattle.book.specs.Books.{checked};
@@ -16,7 +16,7 @@ use text::line_end;
 
 // What is told of a book whose last step is this one, of that line: how many of each there are so far, or the refusal.
 fn answer_after(step: Step, line: usize) -> Checked
-    ensures* { λ r. ⌜ checked_meaning r ≡ on_result (added_meaning line step) (λ state. result (counts_of state)) ⌝ }
+    ensures { checked_meaning result ≡ on_result (added_meaning line step) (λ state. told (counts_of state)) }
 {
     match step {
         Step::Added(state) => Checked::Accepted {
@@ -33,8 +33,8 @@ fn answer_after(step: Step, line: usize) -> Checked
 // What a check of the book tells; and into the lent cells, whatever they hold, the book where it is accepted. Where it
 // is refused they hold nothing of use.
 fn read(bytes: &[u8], cells: &mut Cells) -> Checked
-    ensures* r_value { λ r. ⌜ checked_meaning r ≡ checked bytes.now ⌝ }
-    ensures* fact { λ r. ⌜ ReadInto bytes.now cells.new ⌝ }
+    ensures meaning { checked_meaning result ≡ checked bytes.now }
+    ensures cells_hold_book { ReadInto bytes.now cells.new }
 {
     let size = bytes.len();
     if !limits::book_fits(size) {
@@ -64,7 +64,7 @@ fn read(bytes: &[u8], cells: &mut Cells) -> Checked
 
 // For the crates above: the book into the lent cells, and in it the condition of a number, which counts from 0.
 pub fn ask(bytes: &[u8], condition: u32, cells: &mut Cells) -> Asked
-    ensures* { λ r. ⌜ AskedAs bytes.now condition cells.new r ⌝ }
+    ensures { AskedAs bytes.now condition cells.new result }
 {
     let answer = read(bytes, cells);
     match answer {
@@ -84,7 +84,7 @@ pub fn ask(bytes: &[u8], condition: u32, cells: &mut Cells) -> Asked
 }
 
 pub fn check(bytes: &[u8]) -> Checked
-    ensures* { λ r. ⌜ checked_meaning r ≡ checked bytes.now ⌝ }
+    ensures { checked_meaning result ≡ checked bytes.now }
 {
     let mut cells = [0i32; CELL_COUNT];
     read(bytes, &mut cells)

@@ -1,4 +1,6 @@
 // The limits and ranges of a book, each a test of its own: every call takes every number.
+#![tactic(auto)]
+
 ghost use Rattle.std.proofs.Math.Option.{some};
 ghost use Rattle.std.specs.Prelude.{◌≡◌};
 ghost use Rattle.limits.specs.Limits.{book_fits, line_fits, room_for_policy, room_for_condition, room_for_rule, room_for_exclusion, signal_in_range, exclusion_in_range, within as within_of, default_in_range, score_in_range, threshold_in_range};

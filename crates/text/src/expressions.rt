@@ -22,14 +22,14 @@ pub const POLICY_CODE: u32 = 2;
 const JOIN_BYTES: usize = 3;
 
 // What was read, up to `end`, and how many codes stand in the lent cells then.
-#[derive(Drop)]
+#[derive(Clone, Copy)]
 pub enum Parsed {
     Read { end: usize, count: usize },
     NoExpression,
 }
 
 // The code of the word before a pair.
-#[derive(Drop)]
+#[derive(Clone, Copy)]
 enum Join {
     Code(u32),
     NoJoin,

@@ -6,14 +6,14 @@ ghost use Rattle.text.specs.Spelling.{operator_meaning, sense_meaning};
 use super::bytes::is_word;
 
 // A field as an operator.
-#[derive(Drop)]
+#[derive(Clone, Copy)]
 pub enum OperatorRead {
     Is(peal::Operator),
     NotAnOperator,
 }
 
 // A field as a sense.
-#[derive(Drop)]
+#[derive(Clone, Copy)]
 pub enum SenseRead {
     Is(peal::Sense),
     NotASense,

@@ -1,5 +1,7 @@
 // The text of a book: bytes, lines, fields, numbers, expressions, and the forms that a line may have.
 // The functions are for the crate `book`: each call is proved to meet its condition.
+#![tactic(auto)]
+
 mod bytes;
 mod expressions;
 mod keywords;

@@ -8,7 +8,7 @@ use super::keywords::{OperatorRead, SenseRead, read_operator, read_sense};
 use super::numbers::{NaturalRead, NumberRead, read_natural, read_number};
 
 // What a line says. A condition's expression is not read yet: it stands from the place `from` to the line's end.
-#[derive(Drop)]
+#[derive(Clone, Copy)]
 pub enum Line {
     Policy {
         operator: peal::Operator,
@@ -34,7 +34,7 @@ pub enum Line {
 }
 
 // A line's form, if it has one.
-#[derive(Drop)]
+#[derive(Clone, Copy)]
 pub enum LineRead {
     Good(Line),
     NoForm,

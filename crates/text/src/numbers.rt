@@ -9,14 +9,14 @@ use super::bytes::is_digit;
 const MOST_DIGITS: usize = 6;
 
 // A field as a number without a sign.
-#[derive(Drop)]
+#[derive(Clone, Copy)]
 pub enum NaturalRead {
     Natural(u32),
     NotANatural,
 }
 
 // A field as a number.
-#[derive(Drop)]
+#[derive(Clone, Copy)]
 pub enum NumberRead {
     Number(i32),
     NotANumber,

@@ -1,0 +1,15 @@
+-- `book::cells::exclusion_count`: the cell is a number that fits.
+use mathlib.Core.Path.{ap}
+use native.Mathlib.Omega.{arith}
+use borrow.Author.Rules.{rules}
+use lib.IntN.{nat_abs}
+use Rattle.book.proofs.CellLaws.{read_back, cast_fits}
+use Rattle.book.proofs.cells.exclusion_count.Goals as goal
+
+pub overflow_cast-result : goal.overflow_cast-result
+overflow_cast-result c =
+    let h = c.requires in
+    cast_fits (read_back (search rules) h.held.count) (record { fits = omega (arith, h.room) })
+
+pub returns : goal.returns
+returns c xs h = ap nat_abs (read_back (search rules) h.count)
