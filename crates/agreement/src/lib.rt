@@ -1,5 +1,7 @@
 // The agreement of rod and logger: the claims are in specs/ and their proofs in proofs/.
 // `compile_and_read` and `ask_both` are calls, and take every byte string, condition number, signal set and slice.
+#![tactic(auto)]
+
 ghost use Rattle.std.specs.Prelude.{◌≡◌, ◌*◌, ◌≤◌, length};
 ghost use Rattle.rod.specs.Reading.{rod_answer};
 ghost use Rattle.rod.specs.Meaning.{rod_meaning};
@@ -18,7 +20,7 @@ fn read_compiled(words: &[u32], records: usize, set: u16) -> rod::Decision
 }
 
 // What the rod says of a condition just compiled.
-#[derive(Drop)]
+#[derive(Clone, Copy)]
 pub enum Reading {
     // The rod's answer on the compiled listing.
     Decided(rod::Decision),
@@ -43,7 +45,7 @@ pub fn compile_and_read(bytes: &[u8], condition: u32, set: u16, words: &mut [u32
 }
 
 // What rod and logger say of a condition just compiled.
-#[derive(Drop)]
+#[derive(Clone, Copy)]
 pub enum Both {
     // How many records were compiled, and what each of the two said.
     Said {

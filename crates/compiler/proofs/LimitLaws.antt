@@ -79,3 +79,11 @@ clamped-same t h k = rw (h, k)
 pub clamped-limit : (t : ℤ) → clamped t ≡ limit_of Mul t 0
 unfolding limit_of
 clamped-limit t = sym (times-one (clamped t))
+
+-- ---- what holds of the other operators holds where the code finds that the operator is not mul
+
+pub not-mul : (P : Operator → Type 0) (o : Operator) → (o ≡ Mul → ⊥) → P Min → P Max → P Sum → P o
+not-mul P Min h a b c = a
+not-mul P Max h a b c = b
+not-mul P Sum h a b c = c
+not-mul P Mul h a b c = absurd (h refl)

@@ -1,12 +1,11 @@
 -- A turn of the search, whatever is done with the sets that are found.
 use Prim.Native.Nat.{ℕ, ◌+◌, ◌-◌, ◌≤◌, ◌<◌}
-use mathlib.Core.Bool.{Bool, true, false, not}
+use mathlib.Core.Bool.{Bool, true, false}
 use mathlib.Core.List.{List, [], ◌∷◌, ◌++◌, map, map-append}
 use mathlib.Core.Path.{◌≡◌, refl, sym, ap, ◌∙◌}
 use native.Mathlib.Nat.{add-zero}
 use native.Mathlib.Omega.{arith}
 use lib.IntN.{ℤ}
-use borrow.Author.Tests.{not-false}
 use lib.ListN.{length, length-append, length-map}
 use Rattle.layout.specs.Nodes.{line_records}
 use Rattle.layout.specs.Writing.{put_record, put_records, line_record, lines_up_to}
@@ -39,8 +38,8 @@ pub record Trying (o : Operator) (plan : List ℤ) (count : ℕ) (value : ℤ) (
   pub valued : v ≡ combined_of o value (plan_score plan left)
 
 pub tries : {o : Operator} {plan : List ℤ} {count : ℕ} {value : ℤ} {left : ℕ} {b : Bool} {v : ℤ} → 0 < left → ForPoints o plan count value left (λ p. b ≡ having p (all_at p left))
-    → not b ≡ false → v ≡ combined_of o value (plan_score plan left) → Trying o plan count value left v
-tries some told e valued = record { some = some; reaches = λ p h. sym (told p h) ∙ not-false _ e; valued = valued }
+    → b ≡ true → v ≡ combined_of o value (plan_score plan left) → Trying o plan count value left v
+tries some told e valued = record { some = some; reaches = λ p h. sym (told p h) ∙ e; valued = valued }
 
 -- the point with that rule
 pub taken : {o : Operator} {plan : List ℤ} {count : ℕ} {value : ℤ} {left : ℕ} {v : ℤ} {p : Point} → Trying o plan count value left v → Searching o plan count value left p

@@ -1,5 +1,7 @@
 // Compiling a condition of a book into lent words, for offices.
 // `compile` is the call, and takes every byte string, condition number and slice. The modules are this crate's own.
+#![tactic(auto)]
+
 mod exclusions;
 mod nodes;
 mod planning;
@@ -13,7 +15,7 @@ use exclusions::put_exclusions;
 use nodes::{count_records, put_nodes};
 
 // What compiling returns.
-#[derive(Drop)]
+#[derive(Clone, Copy)]
 pub enum Compiled {
     // The number of records; four words each stand first in the lent slice.
     Records(usize),

@@ -6,7 +6,6 @@ use Rattle.score.specs.declared.exact.Exact.{Exact}
 use Rattle.score.specs.declared.Decision.{Decision}
 use Rattle.score.specs.declared.Decision.TheVariants.{Yes, No, Declined}
 use Rattle.score.specs.declared.Evaluation.{Evaluation}
-use Rattle.score.specs.declared.Evaluation.TheVariants as Evaluation
 
 -- the answer of `score::decide`
 abbrev pub score_meaning : Decision → Answer Bool

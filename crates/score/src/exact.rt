@@ -4,7 +4,7 @@ ghost use Rattle.peal.specs.Score.{scaled, of_two, meets as meets_of};
 ghost use Rattle.score.specs.Pairs.{Is, ForScore, ForScores, ordered, min_max_meaning};
 
 // A score: hundredths, and a remainder in parts, of which a hundredth has 10 to the 14.
-#[derive(Drop)]
+#[derive(Clone, Copy)]
 pub struct Exact {
     pub hundredths: i64,
     pub remainder: u64,

@@ -1,5 +1,7 @@
 // The scored decision on a book's bytes, and the score itself, for loggers. `decide` and `evaluate` are the calls, and
 // take every byte string, condition number and signal set. The modules are this crate's own.
+#![tactic(auto)]
+
 mod exact;
 mod expressions;
 mod policies;
@@ -16,7 +18,7 @@ use exact::meets;
 use expressions::expression_score;
 
 // The logger's answer.
-#[derive(Drop)]
+#[derive(Clone, Copy)]
 pub enum Decision {
     Yes,
     No,
@@ -52,7 +54,7 @@ pub fn decide(bytes: &[u8], condition: u32, set: u16) -> Decision
 }
 
 // The score by which a condition is decided.
-#[derive(Drop)]
+#[derive(Clone, Copy)]
 pub enum Evaluation {
     // That of its expression on the set: hundredths rounded toward minus infinity, and the exact remainder.
     Score(Exact),

@@ -11,7 +11,7 @@ ghost use Rattle.score.specs.PolicyScores.{rule_score, scored_meaning, present_o
 use crate::exact::{Exact, of_product, whole};
 
 // What a rule adds on a signal set.
-#[derive(Drop)]
+#[derive(Clone, Copy)]
 enum Scored {
     Present(i64),
     Absent,
@@ -34,7 +34,7 @@ fn rule_score(cells: &book::Cells, k: usize, i: usize, set: u16) -> Scored
 }
 
 // The rules present so far: how many, and the operator over their scores; the default while there are none.
-#[derive(Drop)]
+#[derive(Clone, Copy)]
 struct Present {
     count: usize,
     value: i64,
