@@ -9,6 +9,8 @@
 ghost use Rattle.std.specs.Prelude.{◌≤◌, ◌<◌, length};
 
 use printing::{print, print_compiled, print_logger, print_number, print_rod, print_words};
+use std::io;
+use std::io::Write;
 use vectors::{SETS, after_word, book_vector, signal_set};
 
 // Marks begin here: no word of a listing is as large.
@@ -57,11 +59,11 @@ fn are_marked(words: &[u32], from: usize) -> bool {
     true
 }
 
-fn print_kept(words: &[u32], from: usize) {
+fn print_kept<W: Write>(out: &mut W, words: &[u32], from: usize) -> io::Result<()> {
     if are_marked(words, from) {
-        print(b" kept");
+        print(out, b" kept")
     } else {
-        print(b" changed");
+        print(out, b" changed")
     }
 }
 
@@ -83,17 +85,17 @@ fn checksum(words: &[u32]) -> u64 {
     sum
 }
 
-fn print_listing(words: &[u32], large: bool) {
+fn print_listing<W: Write>(out: &mut W, words: &[u32], large: bool) -> io::Result<()> {
     if large {
-        print(b" sum ");
-        print_number(checksum(words));
+        print(out, b" sum ")?;
+        print_number(out, checksum(words))
     } else {
-        print_words(words);
+        print_words(out, words)
     }
 }
 
 // What compiling returned, and where the listing ends in the words: at 0 on a refusal.
-#[derive(Drop)]
+#[derive(Clone, Copy)]
 struct Outcome {
     answer: compiler::Compiled,
     end: usize,
@@ -116,24 +118,28 @@ fn compiled_into(bytes: &[u8], condition: u32, words: &mut [u32]) -> Outcome
     }
 }
 
-fn run_compile(text: &[u8], words: &mut [u32], large: bool) {
+fn run_compile<W: Write>(
+    out: &mut W,
+    text: &[u8],
+    words: &mut [u32],
+    large: bool,
+) -> io::Result<()> {
     put_marks(words);
     let v = book_vector(text);
     let start = v.start;
     let lent = v.number as usize;
     if words.len() < lent {
-        print(b"no space");
-        return;
+        return print(out, b"no space");
     }
     let o = compiled_into(&text[start..], v.condition, &mut words[0..lent]);
     let answer = o.answer;
     let end = o.end;
-    print_compiled(answer);
-    print_listing(&words[0..end], large);
-    print_kept(words, end);
+    print_compiled(out, answer)?;
+    print_listing(out, &words[0..end], large)?;
+    print_kept(out, words, end)
 }
 
-fn run_both(text: &[u8], words: &mut [u32]) {
+fn run_both<W: Write>(out: &mut W, text: &[u8], words: &mut [u32]) -> io::Result<()> {
     let v = book_vector(text);
     let start = v.start;
     let set = signal_set(v.number);
@@ -141,12 +147,12 @@ fn run_both(text: &[u8], words: &mut [u32]) {
     let answer = o.answer;
     let end = o.end;
     if end == 0 {
-        print_compiled(answer);
+        print_compiled(out, answer)?;
     } else {
-        print_rod(rod::decide(&words[0..end], set));
+        print_rod(out, rod::decide(&words[0..end], set))?;
     }
-    print(b" ");
-    print_logger(score::decide(&text[start..], v.condition, set));
+    print(out, b" ")?;
+    print_logger(out, score::decide(&text[start..], v.condition, set))
 }
 
 fn rod_number(decision: rod::Decision) -> usize {
@@ -172,20 +178,26 @@ fn common_answer(bytes: &[u8], condition: u32, listing: &[u32], set: u16) -> usi
     if r == s { r } else { DIFFER }
 }
 
-fn print_differing(set: usize) {
-    print(b"differ ");
-    print_number(set as u64);
+fn print_differing<W: Write>(out: &mut W, set: usize) -> io::Result<()> {
+    print(out, b"differ ")?;
+    print_number(out, set as u64)
 }
 
-fn print_agreed(yes: usize, no: usize) {
-    print(b"agree ");
-    print_number(yes as u64);
-    print(b" ");
-    print_number(no as u64);
+fn print_agreed<W: Write>(out: &mut W, yes: usize, no: usize) -> io::Result<()> {
+    print(out, b"agree ")?;
+    print_number(out, yes as u64)?;
+    print(out, b" ")?;
+    print_number(out, no as u64)
 }
 
 // The sets 0, step, 2 step, .. in turn.
-fn print_agreement(bytes: &[u8], condition: u32, listing: &[u32], step: u32)
+fn print_agreement<W: Write>(
+    out: &mut W,
+    bytes: &[u8],
+    condition: u32,
+    listing: &[u32],
+    step: u32,
+) -> io::Result<()>
     requires { 0 < step }
 {
     let mut set = 0;
@@ -194,17 +206,16 @@ fn print_agreement(bytes: &[u8], condition: u32, listing: &[u32], step: u32)
     while set < SETS {
         let answer = common_answer(bytes, condition, listing, set as u16);
         if answer >= DIFFER {
-            print_differing(set);
-            return;
+            return print_differing(out, set);
         }
         yes += answer;
         no += YES - answer;
         set += step as usize;
     }
-    print_agreed(yes, no);
+    print_agreed(out, yes, no)
 }
 
-fn run_agree(text: &[u8], words: &mut [u32]) {
+fn run_agree<W: Write>(out: &mut W, text: &[u8], words: &mut [u32]) -> io::Result<()> {
     let v = book_vector(text);
     let start = v.start;
     let step = v.number;
@@ -212,30 +223,30 @@ fn run_agree(text: &[u8], words: &mut [u32]) {
     let answer = o.answer;
     let end = o.end;
     if end == 0 {
-        print_compiled(answer);
+        print_compiled(out, answer)
     } else if step > 0 {
-        print_agreement(&text[start..], v.condition, &words[0..end], step);
+        print_agreement(out, &text[start..], v.condition, &words[0..end], step)
     } else {
-        print(b"no step");
+        print(out, b"no step")
     }
 }
 
 // Answers a vector of compiling, and tells whether the line is one.
-pub fn answered(line: &[u8], words: &mut [u32]) -> bool {
+pub fn answered<W: Write>(out: &mut W, line: &[u8], words: &mut [u32]) -> io::Result<bool> {
     let compile = after_word(line, b"compile ");
     let large = after_word(line, b"large ");
     let both = after_word(line, b"both ");
     let agree = after_word(line, b"agree ");
     if compile > 0 {
-        run_compile(&line[compile..], words, false);
+        run_compile(out, &line[compile..], words, false)?;
     } else if large > 0 {
-        run_compile(&line[large..], words, true);
+        run_compile(out, &line[large..], words, true)?;
     } else if both > 0 {
-        run_both(&line[both..], words);
+        run_both(out, &line[both..], words)?;
     } else if agree > 0 {
-        run_agree(&line[agree..], words);
+        run_agree(out, &line[agree..], words)?;
     } else {
-        return false;
+        return Ok(false);
     }
-    true
+    Ok(true)
 }

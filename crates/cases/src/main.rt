@@ -1,11 +1,15 @@
 // Runs the cases: a vector on each line of standard input, and its answer on the same line of standard output. What
 // vectors look like stands in `listings`, `books` and `compiling`, beside what answers them. A line that begins with #
 // is copied, and one that is no vector is answered by `no vector`.
+#![tactic(auto)]
+
 mod books;
 mod compiling;
 mod listings;
 
-use printing::{print, print_end};
+use printing::{print, print_end, read_full};
+use std::io;
+use std::io::Write;
 use vectors::{after_word, index_of, put_line_ends};
 
 // Room for the vectors: what comes after so many bytes is not read.
@@ -14,41 +18,41 @@ const VECTORS: usize = 262144;
 // Room for the largest listing of the cases, which has 205,952 records.
 const SPACE: usize = 205952 * layout::RECORD_WORDS;
 
-fn run_vector(line: &[u8], space: &mut [u32]) {
-    if listings::answered(line) {
-        return;
+fn run_vector<W: Write>(out: &mut W, line: &[u8], space: &mut [u32]) -> io::Result<()> {
+    if listings::answered(out, line)? {
+        return Ok(());
     }
-    if books::answered(line) {
-        return;
+    if books::answered(out, line)? {
+        return Ok(());
     }
-    if compiling::answered(line, space) {
-        return;
+    if compiling::answered(out, line, space)? {
+        return Ok(());
     }
-    print(b"no vector");
+    print(out, b"no vector")
 }
 
-fn run_line(line: &mut [u8], space: &mut [u32]) {
+fn run_line<W: Write>(out: &mut W, line: &mut [u8], space: &mut [u32]) -> io::Result<()> {
     if after_word(line, b"#") > 0 {
-        print(line);
-        return;
+        return print(out, line);
     }
     put_line_ends(line);
-    run_vector(line, space);
+    run_vector(out, line, space)
 }
 
-fn run_lines(text: &mut [u8], space: &mut [u32]) {
+fn run_lines<W: Write>(out: &mut W, text: &mut [u8], space: &mut [u32]) -> io::Result<()> {
     let mut at = 0;
     while at < text.len() {
         let end = index_of(text, at, b'\n');
-        run_line(&mut text[at..end], space);
-        print_end();
+        run_line(out, &mut text[at..end], space)?;
+        print_end(out)?;
         at = end + 1;
     }
+    Ok(())
 }
 
-fn main() {
+fn main(rt: HostRuntime) -> io::Result<()> {
     let mut text = [0u8; VECTORS];
-    let length = io::read_full(libc::STDIN_FILENO, &mut text);
+    let length = read_full(&mut rt.stdin(), &mut text)?;
     let mut space = [0u32; SPACE];
-    run_lines(&mut text[0..length], &mut space);
+    run_lines(&mut rt.stdout(), &mut text[0..length], &mut space)
 }

@@ -33,19 +33,19 @@ module _ (code v : ℕ) (h : code < from_bit5) where
   unfolding code_in
   code-in = omega arith
 
-  value_in : value_in (as_one code v) ≡ v
+  value-in : value_in (as_one code v) ≡ v
   unfolding value_in
-  value_in = omega arith
+  value-in = omega arith
 
   answer-in : {A : Type 0} (result_in : ℕ → A)
       → unpacked result_in (as_one code v) ≡ cond (eqb code 0) (result (result_in v)) (refused (number_of code) v)
   unfolding unpacked
-  answer-in result_in = rw (code-in, value_in) refl
+  answer-in result_in = rw (code-in, value-in) refl
 
   comparison-in : comparison_in (as_one code v)
       ≡ cond (eqb code 0) (difference_in v) (declined (which_of (of_first code)) (number_of code) v)
   unfolding comparison_in
-  comparison-in = rw (code-in, value_in) refl
+  comparison-in = rw (code-in, value-in) refl
 
 -- which listing a code is of, and its number
 first_code : (code : ℕ) → code ≤ 20 → (of_first code ≡ true) × (number_of code ≡ code)

@@ -1,6 +1,8 @@
-// The calls for programs in C or Rust that link this code; include/cerahupo.h is their header. Each takes every input,
-// and returns its answer as one number. Only compiling writes the lent words, only the score's call the lent number,
-// and only a traverse the lent answers.
+// The calls for programs in C or Rust, which link this code by the crate `exports_c`; include/cerahupo.h is their header.
+// Each takes every input, and returns its answer as one number. Only compiling writes the lent words, only the score's
+// call the lent number, and only a traverse the lent answers.
+#![tactic(auto)]
+
 ghost use Rattle.std.specs.Prelude.{◌≡◌, ◌+◌, ◌-◌, ◌*◌, ◌^◌, ◌≤◌, ◌<◌};
 ghost use Rattle.layout.specs.Records.{one_if};
 ghost use Rattle.layout.specs.Meaning.{fault_number, fault_value};
@@ -81,8 +83,7 @@ fn refused_listing(fault: layout::Fault) -> u64
     }
 }
 
-#[unsafe(no_mangle)]
-pub extern "C" fn cerahupo_check(bytes: &[u8]) -> u64
+pub fn cerahupo_check(bytes: &[u8]) -> u64
     ensures { result ≡ packed counts_value (checked bytes.now) }
 {
     let answer = book::check(bytes);
@@ -98,8 +99,7 @@ pub extern "C" fn cerahupo_check(bytes: &[u8]) -> u64
     }
 }
 
-#[unsafe(no_mangle)]
-pub extern "C" fn cerahupo_decide(bytes: &[u8], condition: u32, set: u16) -> u64
+pub fn cerahupo_decide(bytes: &[u8], condition: u32, set: u16) -> u64
     ensures { result ≡ packed one_if (scored_answer bytes.now condition set) }
 {
     let answer = score::decide(bytes, condition, set);
@@ -110,8 +110,7 @@ pub extern "C" fn cerahupo_decide(bytes: &[u8], condition: u32, set: u16) -> u64
     }
 }
 
-#[unsafe(no_mangle)]
-pub extern "C" fn cerahupo_score(bytes: &[u8], condition: u32, set: u16, remainder: &mut u64) -> u64
+pub fn cerahupo_score(bytes: &[u8], condition: u32, set: u16, remainder: &mut u64) -> u64
     ensures { ScoreTold bytes.now condition set remainder.old result remainder.new }
 {
     let answer = score::evaluate(bytes, condition, set);
@@ -125,8 +124,7 @@ pub extern "C" fn cerahupo_score(bytes: &[u8], condition: u32, set: u16, remaind
     }
 }
 
-#[unsafe(no_mangle)]
-pub extern "C" fn cerahupo_compile(bytes: &[u8], condition: u32, words: &mut [u32]) -> u64
+pub fn cerahupo_compile(bytes: &[u8], condition: u32, words: &mut [u32]) -> u64
     ensures { CompilingTold bytes.now condition words.old result words.new }
 {
     let answer = compiler::compile(bytes, condition, words);
@@ -140,8 +138,7 @@ pub extern "C" fn cerahupo_compile(bytes: &[u8], condition: u32, words: &mut [u3
     }
 }
 
-#[unsafe(no_mangle)]
-pub extern "C" fn cerahupo_read(words: &[u32], set: u16) -> u64
+pub fn cerahupo_read(words: &[u32], set: u16) -> u64
     ensures { result ≡ packed one_if (rod_answer words.now set) }
 {
     let answer = rod::decide(words, set);
@@ -152,8 +149,7 @@ pub extern "C" fn cerahupo_read(words: &[u32], set: u16) -> u64
     }
 }
 
-#[unsafe(no_mangle)]
-pub extern "C" fn cerahupo_traverse(words: &[u32], sets: &[u16], answers: &mut [u8]) -> u64
+pub fn cerahupo_traverse(words: &[u32], sets: &[u16], answers: &mut [u8]) -> u64
     ensures { TraverseTold words.now sets.now answers.old
         result answers.new }
 {
@@ -185,8 +181,7 @@ fn accepted_both(yes: u16, no: u16, judged: u32) -> u64
     accepted_choice(value, judged)
 }
 
-#[unsafe(no_mangle)]
-pub extern "C" fn cerahupo_choice(words: &[u32]) -> u64
+pub fn cerahupo_choice(words: &[u32]) -> u64
     ensures { result ≡ packed chosen_value (chosen words.now) }
 {
     let answer = checks::choice(words);
@@ -206,8 +201,7 @@ fn accepted_difference(which: u64, set: u16) -> u64
     accepted(which + FROM_BIT_16 * set as u64)
 }
 
-#[unsafe(no_mangle)]
-pub extern "C" fn cerahupo_compare(one: &[u32], two: &[u32]) -> u64
+pub fn cerahupo_compare(one: &[u32], two: &[u32]) -> u64
     ensures { result ≡ packed_comparison (comparison one.now two.now) }
 {
     let answer = checks::compare(one, two);

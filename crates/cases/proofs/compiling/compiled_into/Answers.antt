@@ -1,0 +1,10 @@
+-- `cases::compiling::compiled_into`: the records that compiling returns lie in the words.
+use native.Mathlib.Omega.{arith}
+use Rattle.compiler.proofs.CompiledLaws.{returned-from}
+use Rattle.cases.proofs.compiling.compiled_into.Goals as goal
+
+pub overflow_mul-end : goal.overflow_mul-end
+overflow_mul-end c = omega (arith, (returned-from c.compile-answer.ensures c.in-Records.is).room)
+
+pub returns : goal.returns
+returns c = omega (arith, (returned-from c.compile-answer.ensures c.in-Records.is).room)
