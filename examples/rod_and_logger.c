@@ -2,7 +2,7 @@
  * is asked by the listing and the logger by the book; the logger shows its score too. Then the rod decides the same sets as one
  * traverse. The book is document 01's, or the file named on the command line.
  *
- *     rt staticlib exports
+ *     tools/build.sh exports
  *     cc -O2 -Iinclude examples/rod_and_logger.c target/staticlib/libexports.a -o target/rod_and_logger
  */
 

@@ -1,7 +1,7 @@
 /* Cerahupo from C: the check of a book, the scored decision, the score itself, compiling, the rod's reading, a whole traverse, the
  * choice check and the comparison.
  *
- * Link libexports.a, which `rt staticlib exports` writes for x86-64 Linux. It uses memcpy and memset of the C library and
+ * Link libexports.a, which `tools/build.sh exports` writes for x86-64 Linux. It uses memcpy and memset of the C library and
  * nothing else, keeps no state and allocates nothing, so calls may run side by side, if nobody else touches what was lent to one, or
  * writes what it reads, until it returns.
  *

@@ -1,4 +1,4 @@
-//! Finds the static library that `rt staticlib exports` writes, and links it.
+//! Finds the static library that `tools/build.sh exports` writes, and links it.
 
 use std::path::PathBuf;
 use std::{env, process};
@@ -12,7 +12,7 @@ fn main() {
     let library = folder.join("libexports.a");
     println!("cargo:rerun-if-changed={}", library.display());
     if !library.is_file() {
-        eprintln!("{} is missing: run `rt staticlib exports` in the folder above,", library.display());
+        eprintln!("{} is missing: run `tools/build.sh exports` in the folder above,", library.display());
         eprintln!("or name the folder that has libexports.a in the variable CERAHUPO_LIB.");
         process::exit(1);
     }

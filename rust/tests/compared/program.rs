@@ -1,4 +1,4 @@
-//! The program `listing` itself, as `rt check listing` builds it.
+//! The program `listing` itself, as `tools/build.sh listing` builds it.
 
 use crate::inputs::random::Random;
 use crate::samples::{Sample, listing_text, samples};
@@ -13,7 +13,7 @@ fn program() -> PathBuf {
     let program = env::var_os("CERAHUPO_LISTING").map_or(built, PathBuf::from);
     assert!(
         program.is_file(),
-        "{} is missing: `rt check listing` in the folder above builds the program, or CERAHUPO_LISTING names it",
+        "{} is missing: `tools/build.sh listing` in the folder above builds the program, or CERAHUPO_LISTING names it",
         program.display()
     );
     program
