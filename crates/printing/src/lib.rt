@@ -2,14 +2,18 @@
 // and their input. `print_end` alone ends a line. Each function ends where a write or a read fails, with its error.
 #![tactic(auto)]
 
-ghost use Rattle.std.specs.Prelude.{◌≤◌, length, IfOk};
+ghost use Rattle.std.specs.Prelude.{◌≤◌, ◌<◌, length, take, IfOk};
+ghost use Rattle.std.specs.Io.KnownBytes.{Consumes, IsAtEnd};
 
 use std::io;
 use std::io::{Read, Write};
 
-// Fills the buffer as far as the input goes, and returns how many bytes it then holds of it.
+// Fills the buffer as far as the input goes, and returns how many bytes it then holds of it: the next ones, and if they do
+// not fill it, all that were left.
 pub fn read_full<R: Read>(input: &mut R, buffer: &mut [u8]) -> io::Result<usize>
-    ensures { IfOk result (λ n. n ≤ length buffer.old) }
+    ensures within { IfOk result (λ n. n ≤ length buffer.old) }
+    ensures next { IfOk result (λ n. Consumes (R.remaining input.old) (R.remaining input.new) (take n buffer.new)) }
+    ensures ended { IfOk result (λ n. n < length buffer.new → IsAtEnd (R.remaining input.new)) }
 {
     let mut at = 0;
     while at < buffer.len() {
