@@ -4,19 +4,20 @@ use mathlib.Core.Bool.{Bool}
 use mathlib.Core.List.{List}
 use mathlib.Core.Path.{◌≡◌, refl, sym, ap, ap₂, subst, ◌∙◌}
 use lib.ListN.{length}
+use Rattle.std.specs.Prelude.{Result}
 use Rattle.answers.specs.Answers.{Answer, result, refused, on_result}
 use Rattle.answers.proofs.Results.{result-is, gone-on, passed-up}
 use Rattle.layout.specs.Records.{Record}
+use Rattle.layout.specs.Meaning.{listing_answer}
+use Rattle.layout.specs.declared.Fault.{Fault}
 use Rattle.rod.specs.Reading.{rod_answer}
-use Rattle.rod.specs.Meaning.{rod_meaning}
-use Rattle.rod.specs.declared.Decision.{Decision as RodDecision}
 use Rattle.peal.specs.Policies.{Condition, Book}
 use Rattle.peal.specs.Score.{decision}
 use Rattle.translation.specs.Translation.{listing_records}
 use Rattle.book.specs.Books.{asked}
+use Rattle.book.specs.Meaning.{condition_answer}
+use Rattle.book.specs.declared.Declined.{Declined}
 use Rattle.score.specs.Decisions.{scored_answer}
-use Rattle.score.specs.Meaning.{score_meaning}
-use Rattle.score.specs.declared.Decision.{Decision as LoggerDecision}
 use Rattle.compiler.specs.Compiling.{fitting, compiled, returned, left_by, compiled_listing}
 use Rattle.agreement.specs.Demand3.{SaySame, MinimalListing}
 use Rattle.agreement.specs.Both.{Sayings, both_say}
@@ -47,19 +48,19 @@ module _ (bytes : List ℕ) (number set : ℕ) (lent : List ℕ) where
   both_by b c rs a f = rw (a, f) refl
 
   module _ (n : ℕ) (e : result n ≡ answered) where
-    module _ (left : List ℕ) (f : left ≡ left_by bytes number lent) (rod : RodDecision) (logger : LoggerDecision)
-        (r : rod_meaning rod ≡ rod_answer (compiled_listing n left) set) (l : score_meaning logger ≡ scored_answer bytes number set) where
-      by-listing : rod_meaning rod ≡ rod_answer (compiled_listing n (left_by bytes number lent)) set
+    module _ (left : List ℕ) (f : left ≡ left_by bytes number lent) (rod : Result Bool Fault) (logger : Result Bool Declined)
+        (r : listing_answer rod ≡ rod_answer (compiled_listing n left) set) (l : condition_answer logger ≡ scored_answer bytes number set) where
+      by-listing : listing_answer rod ≡ rod_answer (compiled_listing n (left_by bytes number lent)) set
       by-listing = r ∙ ap (λ (ws : List ℕ). rod_answer (compiled_listing n ws) set) f
 
-      pub both-said : saying n (rod_meaning rod) (score_meaning logger) ≡ both_say bytes number set (length lent)
+      pub both-said : saying n (listing_answer rod) (condition_answer logger) ≡ both_say bytes number set (length lent)
       unfolding returned compiled
       both-said =
           let (y, said, scored) = compiled-agreement bytes number set n lent (sym e) in
           let (rs, c, count) = gone-on (compiled bytes number (length lent)) _ n (sym e) in
           let ((b, k), a, g) = gone-on (asked bytes number) _ rs c in
           let decided = scored-result bytes number set b k a in
-          ap (λ (i : ℕ). saying i (rod_meaning rod) (score_meaning logger)) (sym (result-is count))
+          ap (λ (i : ℕ). saying i (listing_answer rod) (condition_answer logger)) (sym (result-is count))
           ∙ ap₂ (saying (length rs)) (by-listing ∙ said ∙ sym scored ∙ decided) (l ∙ decided)
           ∙ sym (both_by b k rs a g)
 

@@ -1,35 +1,30 @@
 -- Demand 3: rod and logger say the same of a compiled condition, and its listing has the minimal sets, each once.
 use Prim.Native.Nat.{ℕ}
-use mathlib.Core.Bool.{Bool}
+use mathlib.Core.Bool.{Bool, true, false}
 use mathlib.Core.List.{List, ◌++◌, map, Forall₂}
 use mathlib.Core.Path.{◌≡◌, refl, sym, ap, subst, ◌∙◌}
 use lib.ListN.{length}
 use borrow.Author.Tests.{le-leb}
+use Rattle.std.specs.Prelude.{Result, Ok}
 use Rattle.answers.specs.Answers.{Answer, result, refused, on_result}
-use Rattle.answers.proofs.Results.{no-refusal, result-is, gone-on}
+use Rattle.answers.proofs.Results.{gone-on}
 use Rattle.arith.specs.Members.{Each}
 use Rattle.arith.specs.Trees.{leaf, join, postfix, map_tree, tree_value}
-use Rattle.arith.proofs.Tests.{clash}
 use Rattle.layout.specs.Records.{words, records}
 use Rattle.layout.specs.Judgement.{verdict}
 use Rattle.layout.specs.Nodes.{nodes, excluded}
+use Rattle.layout.specs.Meaning.{listing_answer}
+use Rattle.layout.specs.declared.Fault.{Fault}
 use Rattle.layout.proofs.ListedLaws.{nodes-listing, excluded-listing}
 use Rattle.rod.specs.Reading.{rod_answer}
-use Rattle.rod.specs.Meaning.{rod_meaning}
-use Rattle.rod.specs.declared.Decision.{Decision as RodDecision}
-use Rattle.rod.specs.declared.Decision.TheVariants.{Yes as RodYes, No as RodNo, Declined}
 use Rattle.peal.specs.Policies.{Policy, Expression, Condition, policy_at}
 use Rattle.peal.specs.Score.{decision}
 use Rattle.translation.specs.Translation.{listed, translated, pair_mask, listing_records}
+use Rattle.book.specs.Meaning.{condition_answer}
 use Rattle.book.specs.Ranges.{PolicyInRange}
+use Rattle.book.specs.declared.Declined.{Declined}
 use Rattle.book.proofs.AskedLaws.{asked-in-range}
-use Rattle.score.specs.Meaning.{score_meaning}
-use Rattle.score.specs.declared.Decision.{Decision as LoggerDecision}
-use Rattle.score.specs.declared.Decision.TheVariants.{Yes as LoggerYes, No as LoggerNo, Declined as LoggerDeclined}
 use Rattle.compiler.specs.Compiling.{fitting, compiled, returned, left_by, compiled_listing}
-use Rattle.compiler.specs.Meaning.{compiled_meaning}
-use Rattle.compiler.specs.declared.Compiled.{Compiled}
-use Rattle.compiler.specs.declared.Compiled.TheVariants.{Records, Declined as CompileDeclined, NoRoom}
 use Rattle.agreement.specs.CompiledReading.{compiled_reading}
 use Rattle.agreement.specs.CompiledAgreement.{CompiledAgreement, ReadingAgreement}
 use Rattle.agreement.specs.CompiledSound.{CompiledSound}
@@ -37,6 +32,7 @@ use Rattle.agreement.specs.Demand3.{SaySame, both_yes, both_no, StandsFor, Minim
 use Rattle.agreement.proofs.Policies.{signals-fit}
 use Rattle.agreement.proofs.Conditions.{policy-in-range, tree}
 use Rattle.agreement.proofs.Books.{scored-result, book-agreement}
+use Rattle.agreement.proofs.Oks.{listing-ok, condition-ok, compiled-ok}
 use Rattle.agreement.proofs.Traverses.{traverse-says}
 use Rattle.agreement.proofs.LineMasks.{masks-minimal}
 use Rattle.compiler.proofs.CompiledLaws.{compiled-from}
@@ -68,14 +64,13 @@ unfolding compiled_reading
 reading-agreement bytes number set lent =
     on_same (returned (compiled bytes number (length lent))) _ _ (λ n e. let (b, r, l) = compiled-agreement bytes number set n lent e in r ∙ sym l)
 
-pub say-same : (b : Bool) (rod : RodDecision) (logger : LoggerDecision) → rod_meaning rod ≡ result b → score_meaning logger ≡ result b → SaySame rod logger
-say-same b RodYes LoggerYes r l = both_yes
-say-same b RodYes LoggerNo r l = clash (sym (result-is r)) (sym (result-is l))
-say-same b RodYes (LoggerDeclined d) r l = no-refusal (sym l)
-say-same b RodNo LoggerYes r l = clash (sym (result-is l)) (sym (result-is r))
-say-same b RodNo LoggerNo r l = both_no
-say-same b RodNo (LoggerDeclined d) r l = no-refusal (sym l)
-say-same b (Declined f) logger r l = no-refusal (sym r)
+both-say : (b : Bool) → SaySame (Ok b) (Ok b)
+both-say true = both_yes
+both-say false = both_no
+
+pub say-same : (b : Bool) (rod : Result Bool Fault) (logger : Result Bool Declined)
+    → listing_answer rod ≡ result b → condition_answer logger ≡ result b → SaySame rod logger
+say-same b rod logger r l = rw (listing-ok rod b r, condition-ok logger b l) (both-say b)
 
 -- ---- the lines
 
@@ -118,19 +113,13 @@ unfolding compiled fitting returned
 compiles bytes number lent f =
     rw (f.of_book, le-leb (length (words (listing_records f.book f.condition))) (length lent) f.fits) refl
 
--- the answer that means so many records
-records-returned : (answer : Compiled) (n : ℕ) → compiled_meaning answer ≡ result n → answer ≡ Records n
-records-returned (Records m) n e = ap Records (result-is e)
-records-returned (CompileDeclined d) n e = no-refusal (sym e)
-records-returned NoRoom n e = no-refusal (sym e)
-
 pub demand-3 : Demand3
 demand-3 bytes number lent left answer f ran =
     let n = length (listing_records f.book f.condition) in
     let e = compiles bytes number lent f in
     record {
       count = n;
-      compiles = records-returned answer n (ran.returning ∙ e);
+      compiles = compiled-ok answer n (ran.returning ∙ e);
       same = λ set rod logger reading scoring.
           let (b, r, l) = compiled-agreement bytes number set n lent e in
           say-same b rod logger (reading ∙ ap (λ (ws : List ℕ). rod_answer (compiled_listing n ws) set) ran.leaving ∙ r) (scoring ∙ l);

@@ -4,6 +4,7 @@ pub mod Conditions
 pub mod Words
 pub mod Books
 pub mod LineMasks
+pub mod Oks
 pub mod Traverses
 pub mod Demand3
 pub mod OldListings

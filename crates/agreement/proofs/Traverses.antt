@@ -2,39 +2,27 @@
 use Prim.Native.Nat.{ℕ}
 use mathlib.Core.Bool.{Bool, true, false}
 use mathlib.Core.List.{List, [], ◌∷◌, Forall₂}
-use mathlib.Core.Path.{◌≡◌, refl, sym, ap, subst, ◌∙◌}
+use mathlib.Core.Path.{◌≡◌, sym, ap, subst, ◌∙◌}
 use lib.ListN.{length}
+use Rattle.std.specs.Prelude.{Result, Ok}
 use Rattle.answers.specs.Answers.{result}
-use Rattle.answers.proofs.Results.{no-refusal, result-is, gone-on}
-use Rattle.arith.proofs.Tests.{clash}
+use Rattle.answers.proofs.Results.{result-is, gone-on}
 use Rattle.layout.specs.Records.{one_if}
 use Rattle.layout.specs.Judgement.{verdict}
 use Rattle.rod.specs.Reading.{says, rod_answer}
 use Rattle.rod.specs.Traversing.{answers_to}
-use Rattle.rod.specs.Meaning.{traverse_meaning, TraverseRan}
-use Rattle.rod.specs.declared.Traversed.{Traversed}
-use Rattle.rod.specs.declared.Traversed.TheVariants.{Answered, Unequal, Declined}
+use Rattle.rod.specs.Meaning.{TraverseRan}
+use Rattle.rod.specs.declared.TraverseError.{TraverseError}
 use Rattle.rod.proofs.Traverses.{answered}
 use Rattle.score.specs.Decisions.{scored_answer}
-use Rattle.score.specs.Meaning.{score_meaning}
-use Rattle.score.specs.declared.Decision.{Decision as LoggerDecision}
-use Rattle.score.specs.declared.Decision.TheVariants.{Yes as LoggerYes, No as LoggerNo, Declined as LoggerDeclined}
 use Rattle.agreement.specs.Demand3.{WrittenFor, one_yes, zero_no, AsLogger, TraverseSays}
+use Rattle.agreement.proofs.Oks.{condition-ok, traverse-ok}
 
 -- the bit of an answer is what is written for a logger that gives this answer
-written-for : (b : Bool) (logger : LoggerDecision) → score_meaning logger ≡ result b → WrittenFor (one_if b) logger
+written-for : (b : Bool) → WrittenFor (one_if b) (Ok b)
 unfolding one_if
-written-for true LoggerYes l = one_yes
-written-for false LoggerNo l = zero_no
-written-for true LoggerNo l = clash refl (sym (result-is l))
-written-for false LoggerYes l = clash (sym (result-is l)) refl
-written-for b (LoggerDeclined d) l = no-refusal (sym l)
-
--- only `Answered n` means the result n
-all-answered : (returned : Traversed) (n : ℕ) → traverse_meaning returned ≡ result n → returned ≡ Answered n
-all-answered (Answered m) n e = ap Answered (result-is e)
-all-answered Unequal n e = no-refusal (sym e)
-all-answered (Declined f) n e = no-refusal (sym e)
+written-for true = one_yes
+written-for false = zero_no
 
 module _ (bytes : List ℕ) (number : ℕ) (ws : List ℕ)
     (same : (set : ℕ) → (b : Bool) × (rod_answer ws set ≡ result b) × (scored_answer bytes number set ≡ result b)) where
@@ -46,16 +34,19 @@ module _ (bytes : List ℕ) (number : ℕ) (ws : List ℕ)
       let (u, v, is) = gone-on (verdict ws) _ b r in
       (v, l ∙ ap result (sym (result-is is)))
 
+  as-logger : (set : ℕ) → AsLogger bytes number set (one_if (says ws set))
+  as-logger set logger l = rw (condition-ok logger (says ws set) (l ∙ (sound-saying set).1)) (written-for (says ws set))
+
   each_set : (sets : List ℕ) → Forall₂ (AsLogger bytes number) sets (answers_to ws sets)
   unfolding answers_to
   each_set [] = Forall₂.nil
-  each_set (set ∷ sets) = Forall₂.cons (λ logger l. written-for (says ws set) logger (l ∙ (sound-saying set).1)) (each_set sets)
+  each_set (set ∷ sets) = Forall₂.cons (as-logger set) (each_set sets)
 
-  pub traverse-says : (sets lent : List ℕ) (returned : Traversed) (left : List ℕ) → length sets ≡ length lent
+  pub traverse-says : (sets lent : List ℕ) (returned : Result ℕ TraverseError) (left : List ℕ) → length sets ≡ length lent
       → TraverseRan ws sets lent returned left → TraverseSays bytes number sets returned left
   traverse-says sets lent returned left equal ran =
       let well = answered ws sets lent equal (sound-saying 0).0 in
       record {
-        all = all-answered returned (length sets) (ran.returning ∙ sym well.returning);
+        all = traverse-ok returned (length sets) (ran.returning ∙ sym well.returning);
         each = subst (Forall₂ (AsLogger bytes number) sets) (well.leaving ∙ sym ran.leaving) (each_set sets);
       }

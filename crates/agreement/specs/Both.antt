@@ -1,16 +1,16 @@
 -- What rod and logger say of a condition just compiled: one thing, the decision by the scores.
-use Rattle.std.specs.Prelude.{ℕ, Bool, List, length}
+use Rattle.std.specs.Prelude.{ℕ, Bool, List, Result, Ok, Err, length}
 use Rattle.answers.specs.Answers.{Answer, result, refused, on_result}
-use Rattle.rod.specs.Meaning.{rod_meaning}
+use Rattle.layout.specs.Meaning.{listing_answer}
 use Rattle.peal.specs.Score.{decision}
 use Rattle.translation.specs.Translation.{listing_records}
 use Rattle.book.specs.Books.{asked}
-use Rattle.book.specs.Meaning.{declined_meaning}
-use Rattle.score.specs.Meaning.{score_meaning}
+use Rattle.book.specs.Meaning.{condition_answer}
 use Rattle.compiler.specs.Compiling.{fitting, compiled_listing}
+use Rattle.compiler.specs.Meaning.{error_number, error_value}
+use Rattle.compiler.specs.declared.CompileError.{CompileError}
 use Rattle.agreement.specs.Demand3.{SaySame, MinimalListing}
 use Rattle.agreement.specs.declared.Both.{Both}
-use Rattle.agreement.specs.declared.Both.TheVariants.{Said, Declined, NoRoom}
 
 -- how many records were compiled, and what each answered
 pub record Sayings : Type 0 where
@@ -19,10 +19,9 @@ pub record Sayings : Type 0 where
   pub logger : Answer Bool
 
 -- the answer of `agreement::ask_both`
-abbrev pub both_meaning : Both → Answer Sayings
-both_meaning (Said n rod logger) = result (record { records = n; rod = rod_meaning rod; logger = score_meaning logger })
-both_meaning (Declined d) = declined_meaning d
-both_meaning NoRoom = refused 8 0
+abbrev pub both_meaning : Result Both CompileError → Answer Sayings
+both_meaning (Ok b) = result (record { records = b.records; rod = listing_answer b.rod; logger = condition_answer b.logger })
+both_meaning (Err e) = refused (error_number e) (error_value e)
 
 -- refusals 1 to 8; else neither refuses, and both say what the scores say
 unfoldable pub both_say : List ℕ → ℕ → ℕ → ℕ → Answer Sayings
@@ -33,7 +32,6 @@ both_say bytes number set lent =
     result (record { records = length rs; rod = said; logger = said })))
 
 -- demand 3 of one set, of what was returned and left
-abbrev pub Held : List ℕ → ℕ → List ℕ → Both → Type 0
-Held bytes number left (Said n rod logger) = SaySame rod logger × MinimalListing bytes number (compiled_listing n left)
-Held bytes number left (Declined d) = Unit {0}
-Held bytes number left NoRoom = Unit {0}
+abbrev pub Held : List ℕ → ℕ → List ℕ → Result Both CompileError → Type 0
+Held bytes number left (Ok b) = SaySame b.rod b.logger × MinimalListing bytes number (compiled_listing b.records left)
+Held bytes number left (Err e) = Unit {0}

@@ -13,8 +13,8 @@ pub const BLOCK_SETS: u32 = 64;
 // The place of a block's last set.
 pub const LAST_PLACE: u32 = BLOCK_SETS - 1;
 
-// How many signals tell a block's sets apart: the lowest.
-const BLOCK_SIGNALS: u32 = 6;
+// How many signals tell a block's sets apart: the lowest. A signal is a plain number, since `for` goes over them.
+pub const BLOCK_SIGNALS: u32 = 6;
 
 // Every set of a block.
 const ALL: u64 = 0xffffffffffffffff;
@@ -26,7 +26,7 @@ pub fn all_if(yes: bool) -> u64
     if yes { ALL } else { 0 }
 }
 
-// The sets of a block that have the signal, one of the six lowest.
+// The sets of a block that have the signal, one of the six lowest; a plain number, since a `for` goes over them.
 fn having(signal: u32) -> u64
     requires { signal < 6 }
     ensures { WordOf (λ j. present j signal) result }
@@ -68,10 +68,8 @@ pub fn low_overlap(low: u32) -> u64
     ensures { WordOf (overlap low) result }
 {
     let mut word: u64 = 0;
-    let mut signal: u32 = 0;
-    while signal < BLOCK_SIGNALS {
+    for signal in 0..BLOCK_SIGNALS {
         word = sharing(low, signal) | word;
-        signal += 1;
     }
     word
 }

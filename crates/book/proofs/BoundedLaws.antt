@@ -24,7 +24,7 @@ use Rattle.book.specs.Judged.{with_line}
 use Rattle.book.specs.SoFar.{Bounded}
 use Rattle.text.proofs.FormMentions.{FewMentions, form-mentions}
 use Rattle.book.proofs.JudgeLaws.{accept-fine}
-use Rattle.book.proofs.RangeLaws.{new-in-range, rule-added, condition-in-range, last-in-range, policy-added, last-changed, exclusion-added, condition-added, rules-at-most}
+use Rattle.book.proofs.RangeLaws.{new-in-range, rule-added, condition-in-range, last-in-range, policy-added, last-changed, exclusion-added, condition-added}
 
 -- ---- what an accepted line has passed
 
@@ -50,7 +50,7 @@ unfolding no_line empty_book
 bounded-start = record { range = record { policies_room = omega arith; exclusions_room = omega arith; conditions_room = omega arith; policies = tt; exclusions = tt; conditions = tt }; some = λ h. clash h refl }
 
 -- the last policy with one rule more
-abbrev changed : BookSoFar → ℕ → ℤ → Policy
+abbrev pub changed : BookSoFar → ℕ → ℤ → Policy
 changed so s v = with_rule (last_policy so.book) (record { signal = s; score = v })
 
 module _ (so : BookSoFar) (b : Bounded so) where
@@ -59,7 +59,7 @@ module _ (so : BookSoFar) (b : Bounded so) where
     unfolding in_place
     rule-some = b.some p.place
 
-    changed-in-range : PolicyInRange (changed so s v)
+    pub changed-in-range : PolicyInRange (changed so s v)
     unfolding in_count in_range is_new
     changed-in-range =
         let o : Operator = (last_policy so.book).operator in
@@ -68,11 +68,7 @@ module _ (so : BookSoFar) (b : Bounded so) where
         (and_right (leb s 15) (score_in_range o v) p.range)
         (not-true _ p.new)
 
-    pub rule-room : length (last_policy so.book).rules < 16
-    unfolding with_rule
-    rule-room = omega (arith, rules-at-most (changed so s v) changed-in-range, length-append (last_policy so.book).rules (record { signal = s; score = v } ∷ []))
-
-  bounded-after : (n : ℕ) (f : Form) → Passed n so f → FewMentions f → Bounded (with_line so f)
+  pub bounded-after : (n : ℕ) (f : Form) → Passed n so f → FewMentions f → Bounded (with_line so f)
   unfolding with_line book_with opens_rules in_place in_count in_range with_policies with_policy with_last
   bounded-after n old_zero p few = record { range = b.range; some = λ h. clash h refl }
   bounded-after n (policy o d) p few =

@@ -1,5 +1,5 @@
 -- Policies, conditions and books in range, and what adding to them keeps.
-use Prim.Native.Nat.{ℕ, ◌-◌, ◌≤◌, ◌<◌}
+use Prim.Native.Nat.{ℕ, ◌-◌, ◌^◌, ◌≤◌, ◌<◌}
 use mathlib.Core.Bool.{Bool, true, false, not, ◌&&◌}
 use mathlib.Core.List.{List, [], ◌∷◌, ◌++◌, map-append}
 use mathlib.Core.Option.{Option, none, some}
@@ -7,16 +7,20 @@ use mathlib.Core.Path.{◌≡◌, refl, sym, subst, ◌∙◌}
 use native.Mathlib.Omega.{arith}
 use lib.Dec.{leb, eqb}
 use lib.IntN.{ℤ}
-use lib.ListN.{length, length-append, length-set, length-map}
+use lib.ListN.{length, get_or, set, length-append, length-set, length-map}
 use borrow.Author.Tests.{leb-true, ltb-true, eqb-false, not-true}
+use lib.Seq.{take_all}
+use Rattle.std.specs.List.{refill}
+use Rattle.std.proofs.lemmas.List.{get_or_default, take-append-le}
 use Rattle.arith.specs.Lists.{exists}
 use Rattle.arith.specs.Members.{Each, Distinct}
 use Rattle.arith.proofs.EveryExists.{exists-map}
 use Rattle.arith.proofs.Distinct.{absent-each, at_most, distinct_more}
-use Rattle.arith.proofs.Each.{each_none, each-get, each_more, each_set}
+use Rattle.arith.proofs.Each.{each_none, each-get, each_more, each-rest, each_set}
 use Rattle.arith.proofs.Tests.{and_left, and_right}
 use Rattle.arith.specs.Leaves.{leaf_count}
-use Rattle.peal.specs.Policies.{Rule, Policy, Exclusion, Condition, Book, policy_at}
+use Rattle.signals.proofs.SetOfLaws.{set_below}
+use Rattle.peal.specs.Policies.{Rule, Policy, Exclusion, Condition, Book, mask_of, policy_at}
 use Rattle.peal.specs.declared.Operator.{Operator}
 use Rattle.peal.specs.declared.Operator.TheVariants.{Min, Max, Sum, Mul}
 use Rattle.limits.specs.Limits.{exclusion_in_range, threshold_in_range}
@@ -25,7 +29,7 @@ use Rattle.book.specs.Ranges.{signals_of, PolicyInRange, ExclusionInRange, Condi
 
 -- ---- a policy and a condition
 
-missing-in-range : (old : Bool) (o : Operator) → default_in_range (some (missing_default old o)) ≡ true
+pub missing-in-range : (old : Bool) (o : Operator) → default_in_range (some (missing_default old o)) ≡ true
 unfolding missing_default default_in_range within
 missing-in-range true o = refl
 missing-in-range false Min = refl
@@ -60,6 +64,16 @@ module _ (p : Policy) (h : PolicyInRange p) where
         room = λ e. omega (arith, length-append p.rules (r ∷ []), room-in-mul p.operator p.rules room e);
       }
 
+-- the set of the signals has room in 16 bits
+pub mask-fits : (p : Policy) → PolicyInRange p → mask_of p.rules < 2 ^ 16
+unfolding mask_of
+mask-fits p h = set_below 16 (signals_of p.rules) h.signals h.distinct
+
+-- a rule that was added has a signal in range
+pub added-small : (p : Policy) (r : Rule) → PolicyInRange (with_rule p r) → r.signal < 16
+unfolding with_rule
+added-small p r h = (each-rest (◌< 16) (signals_of p.rules) (r.signal ∷ []) (subst (Each (◌< 16)) (map-append (λ (x : Rule). x.signal) p.rules (r ∷ [])) h.signals)).0
+
 pub condition-in-range : (n : ℕ) (c : Condition) → (threshold_in_range c.threshold && mentions_below n c.expression) ≡ true
     → leaf_count c.expression ≤ 16 → ConditionInRange n c
 condition-in-range n c h room =
@@ -88,6 +102,18 @@ apart-in-range a b h =
 one-in-range : (ps : List Policy) (i : ℕ) → Each PolicyInRange ps → i < length ps → PolicyInRange (policy_at ps i)
 unfolding policy_at
 one-in-range ps i k h = each-get PolicyInRange ps i _ k h
+
+-- the policy at the last place
+pub last-is : (b : Book) (ps : List Policy) (p : Policy) → ps ≡ b.policies → 0 < length b.policies → p ≡ get_or ps (length ps - 1) p → p ≡ last_policy b
+unfolding last_policy policy_at
+last-is b ps p same has is = (rw same at is) ∙ get_or_default b.policies _ p _ (omega arith)
+
+-- a policy put at its place in the policies as they were lent
+pub policy-put : (ps lent : List Policy) (i : ℕ) (p : Policy) → lent ≡ ps → refill (length ps) ps (set lent i p) ≡ set ps i p
+policy-put ps lent i p same =
+    let long : length (set ps i p) ≡ length ps = length-set ps i p in
+    let room : length ps ≤ length (set ps i p) = omega arith in
+    rw (same, take-append-le, take_all (length ps) (set ps i p) (omega arith))
 
 module _ (b : Book) (h : BookInRange b) where
   pub policy-in-range : (i : ℕ) → i < length b.policies → PolicyInRange (policy_at b.policies i)

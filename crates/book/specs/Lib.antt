@@ -1,11 +1,9 @@
 pub mod Acceptance
 pub mod Books
 pub mod OldBooks
-pub mod Cells
 pub mod Ranges
 pub mod Meaning
 pub mod Asked
-pub mod Storing
 pub mod SoFar
 pub mod Judged
 pub mod Adding

@@ -1,155 +1,130 @@
 // The acceptance of a line that has a form, in the order 3 to 6.
 // For this crate only: no other can name these functions, and each call is proved to meet its condition.
-ghost use Rattle.std.specs.Prelude.{◌&&◌, ◌≡◌, ◌≤◌, eqb};
+#![tactic(auto, using(crate::proofs::JudgeLaws::present_signal, crate::proofs::JudgeLaws::mentions_all), unfolding(crate::specs::Acceptance::accept, crate::specs::Acceptance::in_place, crate::specs::Acceptance::in_count, crate::specs::Acceptance::in_range, crate::specs::Acceptance::is_new, crate::specs::Judged::with_line))]
+
+ghost use Rattle.std.specs.Prelude.{◌≡◌};
 ghost use Rattle.arith.specs.Lists.{exists};
-ghost use Rattle.text.specs.Forms.{rule, exclusion};
-ghost use Rattle.book.specs.Acceptance.{mentions_below, excludes};
-ghost use Rattle.book.specs.Cells.{ForExclusions, ForExpression, most_policies, most_codes};
-ghost use Rattle.book.specs.Ranges.{ExclusionsKept};
-ghost use Rattle.book.specs.SoFar.{Kept};
-ghost use Rattle.book.specs.Judged.{JudgedFor, PolicyJudged, ConditionJudged};
+ghost use Rattle.std.specs.List.{list_all};
+ghost use Rattle.peal.specs.declared.Operator.{Operator};
+ghost use Rattle.peal.specs.declared.Sense.{Sense};
+ghost use Rattle.text.specs.Codes.{expression_of, AreCodes};
+ghost use Rattle.text.specs.Forms.{policy, rule as rule_form, exclusion as exclusion_form, condition};
+ghost use Rattle.std.proofs.Math.Option.{some};
+ghost use Rattle.book.specs.Acceptance.{excludes};
+ghost use Rattle.book.specs.SoFar.{Bounded, so_far_of};
+ghost use Rattle.book.specs.Judged.{code_below, Judged, JudgedBy};
 
 use crate::Reason;
-use crate::cells::{Cells, count_at, exclusion_count, first_at, mask_at, operator_at, second_at};
-use text::{CODE_COUNT, POLICY_CODE};
+use crate::books::Book;
+use text::Code;
 
-// What the lines so far leave for the next one, beside the cells: whether the line above is a `p` or an `r`, the
-// counts, and whether the first line is an `o`.
+// What the lines so far leave for the next one, beside the book: whether the line above is a `p` or an `r`, and whether
+// the first line is an `o`.
+// Two marks by value, not one struct with the book: what goes in and comes out stays in registers (docs/DECISIONS.md, D34).
 #[derive(Clone, Copy)]
 pub struct SoFar {
     pub in_rules: bool,
-    pub policies: usize,
-    pub conditions: usize,
     pub old_zero: bool,
 }
 
-// A line is fine, or refused for a reason.
-#[derive(Clone, Copy)]
-pub enum Verdict {
-    Fine,
-    Refused(Reason),
-}
-
-// Each policy that the expression mentions is one of the first so many.
-fn mentions_below(codes: &[u32; CODE_COUNT], count: usize, policies: u32) -> bool
-    requires { (count ≤ most_codes) × (policies ≤ most_policies) }
-    ensures { ForExpression codes.now count (λ e. result ≡ mentions_below policies e) }
+// A join, or one of the first so many policies.
+fn is_below(code: Code, policies: usize) -> bool
+    ensures { result ≡ code_below policies code }
 {
-    let mut i = 0;
-    while i < count {
-        if codes[i] >= policies + POLICY_CODE {
-            return false;
-        }
-        i += 1;
+    match code {
+        Code::Policy(k) => (k as usize) < policies,
+        _ => true,
     }
-    true
 }
 
-// a is first, and b is second.
-fn are_both(a: u32, b: u32, first: u32, second: u32) -> bool
-    ensures { result ≡ (eqb a first && eqb b second) }
+// Each policy that these codes mention is one of the first so many.
+fn mentions_below(codes: &[Code], policies: usize) -> bool
+    ensures { result ≡ list_all (code_below policies) codes.now }
 {
-    if a == first { b == second } else { false }
+    codes.iter().all(|code| is_below(*code, policies))
 }
 
-// The book has an exclusion of these two signals, in either order.
-fn has_exclusion(cells: &Cells, first: u32, second: u32) -> bool
-    requires { ExclusionsKept cells.now }
-    ensures { ForExclusions cells.now (λ xs. result ≡ exists (excludes first second) xs) }
+// One of the exclusions has the same two signals, in either order.
+fn has_exclusion(exclusions: &[peal::Exclusion], new: peal::Exclusion) -> bool
+    ensures { result ≡ exists (excludes new.first new.second) exclusions.now }
 {
-    let count = exclusion_count(cells);
-    let mut i = 0;
-    while i < count {
-        let one = first_at(cells, i);
-        let other = second_at(cells, i);
-        if are_both(one, other, first, second) {
-            return true;
-        }
-        if are_both(one, other, second, first) {
-            return true;
-        }
-        i += 1;
-    }
-    false
+    let turned = peal::Exclusion {
+        first: new.second,
+        second: new.first,
+    };
+    exclusions.contains(&new) || exclusions.contains(&turned)
 }
 
-// `ranged` tells whether the policy's default is in range.
-pub fn judge_policy(state: SoFar, ranged: bool) -> Verdict
-    ensures { PolicyJudged state ranged result }
+pub fn judge_policy(book: &Book, default: i32) -> Result<(), Reason>
+    ensures { (o : Operator) → JudgedBy book.now (policy o (some default)) result }
 {
-    if 0 < state.conditions {
-        return Verdict::Refused(Reason::OutOfPlace);
+    if !book.conditions().is_empty() {
+        return Err(Reason::OutOfPlace);
     }
-    if !limits::room_for_policy(state.policies) {
-        return Verdict::Refused(Reason::TooMany);
+    if !limits::room_for_policy(book.policies().len()) {
+        return Err(Reason::TooMany);
     }
-    if !ranged {
-        return Verdict::Refused(Reason::OutOfRange);
+    if !limits::default_in_range(default) {
+        return Err(Reason::OutOfRange);
     }
-    Verdict::Fine
+    Ok(())
 }
 
-pub fn judge_rule(cells: &Cells, state: SoFar, signal: u32, score: i32) -> Verdict
-    requires { Kept state cells.now }
-    ensures { JudgedFor state cells.now (rule signal score) result }
+pub fn judge_rule(book: &Book, state: SoFar, rule: peal::Rule) -> Result<(), Reason>
+    requires { Bounded (so_far_of book.now state) }
+    ensures { Judged (so_far_of book.now state) (rule_form rule.signal rule.score) result }
 {
     if !state.in_rules {
-        return Verdict::Refused(Reason::OutOfPlace);
+        return Err(Reason::OutOfPlace);
     }
-    let k = state.policies - 1;
-    let operator = operator_at(cells, k);
-    if !limits::room_for_rule(operator, count_at(cells, k)) {
-        return Verdict::Refused(Reason::TooMany);
+    let policy = book.last_policy();
+    let operator = policy.operator();
+    if !limits::room_for_rule(operator, policy.rules().len()) {
+        return Err(Reason::TooMany);
     }
-    if !limits::signal_in_range(signal) {
-        return Verdict::Refused(Reason::OutOfRange);
+    if !limits::signal_in_range(rule.signal) {
+        return Err(Reason::OutOfRange);
     }
-    if !limits::score_in_range(operator, score) {
-        return Verdict::Refused(Reason::OutOfRange);
+    if !limits::score_in_range(operator, rule.score) {
+        return Err(Reason::OutOfRange);
     }
-    if signals::is_present(mask_at(cells, k), signal) {
-        return Verdict::Refused(Reason::Repeated);
+    if signals::is_present(policy.mask(), rule.signal) {
+        return Err(Reason::Repeated);
     }
-    Verdict::Fine
+    Ok(())
 }
 
-// The first `count` codes are those of the condition's expression.
-pub fn judge_condition(
-    state: SoFar,
-    threshold: i32,
-    codes: &[u32; CODE_COUNT],
-    count: usize,
-) -> Verdict
-    requires { (state.policies ≤ most_policies) × (count ≤ most_codes) }
-    ensures { ConditionJudged state threshold codes.now count result }
+// The codes are those of the condition's expression.
+pub fn judge_condition(book: &Book, threshold: i32, codes: &[Code]) -> Result<(), Reason>
+    requires { AreCodes codes.now }
+    ensures { (c : Sense) → JudgedBy book.now (condition c threshold (expression_of codes.now)) result }
 {
-    if !limits::room_for_condition(state.conditions) {
-        return Verdict::Refused(Reason::TooMany);
+    if !limits::room_for_condition(book.conditions().len()) {
+        return Err(Reason::TooMany);
     }
     if !limits::threshold_in_range(threshold) {
-        return Verdict::Refused(Reason::OutOfRange);
+        return Err(Reason::OutOfRange);
     }
-    if !mentions_below(codes, count, state.policies as u32) {
-        return Verdict::Refused(Reason::OutOfRange);
+    if !mentions_below(codes, book.policies().len()) {
+        return Err(Reason::OutOfRange);
     }
-    Verdict::Fine
+    Ok(())
 }
 
-pub fn judge_exclusion(cells: &Cells, state: SoFar, first: u32, second: u32) -> Verdict
-    requires { ExclusionsKept cells.now }
-    ensures { JudgedFor state cells.now (exclusion first second) result }
+pub fn judge_exclusion(book: &Book, exclusion: peal::Exclusion) -> Result<(), Reason>
+    ensures { JudgedBy book.now (exclusion_form exclusion.first exclusion.second) result }
 {
-    if 0 < state.conditions {
-        return Verdict::Refused(Reason::OutOfPlace);
+    if !book.conditions().is_empty() {
+        return Err(Reason::OutOfPlace);
     }
-    if !limits::room_for_exclusion(exclusion_count(cells)) {
-        return Verdict::Refused(Reason::TooMany);
+    if !limits::room_for_exclusion(book.exclusions().len()) {
+        return Err(Reason::TooMany);
     }
-    if !limits::exclusion_in_range(first, second) {
-        return Verdict::Refused(Reason::OutOfRange);
+    if !limits::exclusion_in_range(exclusion.first, exclusion.second) {
+        return Err(Reason::OutOfRange);
     }
-    if has_exclusion(cells, first, second) {
-        return Verdict::Refused(Reason::Repeated);
+    if has_exclusion(book.exclusions(), exclusion) {
+        return Err(Reason::Repeated);
     }
-    Verdict::Fine
+    Ok(())
 }

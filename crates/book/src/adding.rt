@@ -1,41 +1,34 @@
 // Lines, each tried in the order 1 to 6 and added to the book so far.
 // For this crate only: no other can name these functions, and each call is proved to meet its condition.
+#![tactic(auto, unfolding(crate::specs::Acceptance::accept, crate::specs::Acceptance::in_place, crate::specs::Acceptance::in_count, crate::specs::Acceptance::in_range, crate::specs::Acceptance::is_new, crate::specs::Acceptance::missing_default, crate::specs::Acceptance::default_of, crate::specs::Acceptance::book_with, crate::specs::Acceptance::opens_rules, crate::specs::Acceptance::old_zero_after, crate::specs::Judged::with_line, crate::specs::Books::accept_form, crate::specs::Books::read_line))]
+
 ghost use Rattle.std.specs.Prelude.{◌≡◌};
-ghost use Rattle.text.specs.Forms.{rule, exclusion, condition};
+ghost use Rattle.std.proofs.Math.Option.{some};
+ghost use Rattle.text.specs.Codes.{expression_of};
+ghost use Rattle.text.specs.Forms.{policy, rule as rule_form, exclusion as exclusion_form, condition};
 ghost use Rattle.book.specs.Acceptance.{missing_default};
-ghost use Rattle.book.specs.Cells.{ForExpression};
-ghost use Rattle.book.specs.SoFar.{Kept};
-ghost use Rattle.book.specs.Adding.{Adds, OldZeroAdded, PolicyAdded, CanAddCondition, CanAddForm, FormAdded, LineAdded};
+ghost use Rattle.book.specs.SoFar.{Bounded, so_far_of};
+ghost use Rattle.book.specs.Adding.{Adds, OldZeroAdded, CanAddCondition, CanAddForm, FormAdded, LineAdded};
 
 use crate::Reason;
-use crate::acceptance::{
-    SoFar, Verdict, judge_condition, judge_exclusion, judge_policy, judge_rule,
-};
-use crate::cells::Cells;
-use crate::storing::{put_condition, put_exclusion, put_policy, put_rule};
-use text::{CODE_COUNT, Line, LineRead, Parsed, read_expression, read_line};
+use crate::acceptance::{SoFar, judge_condition, judge_exclusion, judge_policy, judge_rule};
+use crate::books::Book;
+use crate::conditions::Condition;
+use crate::policies::Policy;
+use text::{Codes, Line, read_expression, read_line};
 
 // A score of 1.00, in hundredths.
 const FULL_SCORE: i32 = 100;
 
-// A line is added, and this stands so far with it; or it is refused.
-#[derive(Clone, Copy)]
-pub enum Step {
-    Added(SoFar),
-    Refused(Reason),
-}
-
 // An `o`, which stands only as the first line.
-fn add_old_zero(state: SoFar, top: bool) -> Step
-    ensures { OldZeroAdded state top result }
+fn add_old_zero(top: bool) -> Result<SoFar, Reason>
+    ensures { (b : Book) (state : SoFar) → OldZeroAdded b state top result }
 {
     if !top {
-        return Step::Refused(Reason::OutOfPlace);
+        return Err(Reason::OutOfPlace);
     }
-    Step::Added(SoFar {
+    Ok(SoFar {
         in_rules: false,
-        policies: state.policies,
-        conditions: state.conditions,
         old_zero: true,
     })
 }
@@ -55,126 +48,120 @@ fn missing_default(old: bool, operator: peal::Operator) -> i32
     }
 }
 
-// `ranged` tells whether the default is in range.
 fn add_policy(
-    cells: &mut Cells,
+    book: &mut Book,
     state: SoFar,
     operator: peal::Operator,
     default: i32,
-    ranged: bool,
-) -> Step
-    requires { Kept state cells.old }
-    ensures { PolicyAdded state cells.old operator default ranged result cells.new }
+) -> Result<SoFar, Reason>
+    requires { Bounded (so_far_of book.old state) }
+    ensures { Adds (so_far_of book.old state) (policy operator (some default)) result book.new }
 {
-    if let Verdict::Refused(reason) = judge_policy(state, ranged) {
-        return Step::Refused(reason);
-    }
-    let k = state.policies;
-    put_policy(cells, k, operator, default);
-    Step::Added(SoFar {
+    judge_policy(book, default)?;
+    book.push_policy(Policy::new(operator, default));
+    Ok(SoFar {
         in_rules: true,
-        policies: k + 1,
-        conditions: state.conditions,
-        old_zero: state.old_zero,
+        ..state
     })
 }
 
-fn add_rule(cells: &mut Cells, state: SoFar, signal: u32, score: i32) -> Step
-    requires { Kept state cells.old }
-    ensures { Adds state cells.old (rule signal score) result cells.new }
+fn add_rule(book: &mut Book, state: SoFar, rule: peal::Rule) -> Result<SoFar, Reason>
+    requires { Bounded (so_far_of book.old state) }
+    ensures { Adds (so_far_of book.old state) (rule_form rule.signal rule.score) result book.new }
 {
-    if let Verdict::Refused(reason) = judge_rule(cells, state, signal, score) {
-        return Step::Refused(reason);
-    }
-    let k = state.policies - 1;
-    put_rule(cells, k, signal, score);
-    Step::Added(state)
+    judge_rule(book, state, rule)?;
+    book.push_rule(rule);
+    Ok(state)
 }
 
-fn add_exclusion(cells: &mut Cells, state: SoFar, first: u32, second: u32) -> Step
-    requires { Kept state cells.old }
-    ensures { Adds state cells.old (exclusion first second) result cells.new }
+fn add_exclusion(book: &mut Book, state: SoFar, exclusion: peal::Exclusion) -> Result<SoFar, Reason>
+    requires { Bounded (so_far_of book.old state) }
+    ensures { Adds (so_far_of book.old state) (exclusion_form exclusion.first exclusion.second) result book.new }
 {
-    if let Verdict::Refused(reason) = judge_exclusion(cells, state, first, second) {
-        return Step::Refused(reason);
-    }
-    put_exclusion(cells, first, second);
-    let mut next = state;
-    next.in_rules = false;
-    Step::Added(next)
+    judge_exclusion(book, exclusion)?;
+    book.push_exclusion(exclusion);
+    Ok(SoFar {
+        in_rules: false,
+        ..state
+    })
 }
 
-// The first `count` codes are those of the condition's expression.
+// The codes are those of the condition's expression.
 fn add_condition(
-    cells: &mut Cells,
+    book: &mut Book,
     state: SoFar,
     sense: peal::Sense,
     threshold: i32,
-    codes: &[u32; CODE_COUNT],
-    count: usize,
-) -> Step
-    requires { CanAddCondition state cells.old codes.now count }
-    ensures { ForExpression codes.now count (λ e.
-        Adds state cells.old (condition sense threshold e) result cells.new) }
+    codes: Codes,
+) -> Result<SoFar, Reason>
+    requires { CanAddCondition (so_far_of book.old state) codes.items }
+    ensures { Adds (so_far_of book.old state) (condition sense threshold (expression_of codes.items))
+        result book.new }
 {
-    if let Verdict::Refused(reason) = judge_condition(state, threshold, codes, count) {
-        return Step::Refused(reason);
-    }
-    let n = state.conditions;
-    put_condition(cells, n, sense, threshold, codes, count);
-    Step::Added(SoFar {
+    judge_condition(book, threshold, &codes)?;
+    book.push_condition(Condition::new(sense, threshold, codes));
+    Ok(SoFar {
         in_rules: false,
-        policies: state.policies,
-        conditions: n + 1,
-        old_zero: state.old_zero,
+        ..state
     })
 }
 
 // A line of at most 128 bytes that was read as `form`; `top` tells whether it is line 1. It stands apart from
 // `add_line` so that each form's function is put in place by the back end (docs/DECISIONS.md, D34).
-fn add_form(cells: &mut Cells, state: SoFar, line: &[u8], top: bool, form: Line) -> Step
-    requires { CanAddForm state cells.old line.now form }
-    ensures { FormAdded state cells.old line.now top form result cells.new }
+#[tactic(auto, unfolding(crate::specs::Books::accept_form, text::specs::Parsing::ExpressionRead))]
+fn add_form(
+    book: &mut Book,
+    state: SoFar,
+    line: &[u8],
+    top: bool,
+    form: Line,
+) -> Result<SoFar, Reason>
+    requires { CanAddForm (so_far_of book.old state) line.now form }
+    ensures { FormAdded (so_far_of book.old state) line.now top form result book.new }
 {
     match form {
-        Line::Policy { operator, default } => {
-            let ranged = limits::default_in_range(default);
-            add_policy(cells, state, operator, default, ranged)
-        }
+        Line::Policy { operator, default } => add_policy(book, state, operator, default),
         Line::BarePolicy { operator } => {
             let default = missing_default(state.old_zero, operator);
-            add_policy(cells, state, operator, default, true)
+            add_policy(book, state, operator, default)
         }
-        Line::Rule { signal, score } => add_rule(cells, state, signal, score),
+        Line::Rule { signal, score } => add_rule(book, state, peal::Rule { signal, score }),
         Line::Condition {
             sense,
             threshold,
             from,
         } => {
-            let mut codes = [0u32; CODE_COUNT];
-            let Parsed::Read { count, .. } = read_expression(line, from, &mut codes) else {
-                return Step::Refused(Reason::NoForm);
+            let Some(codes) = read_expression(line, from) else {
+                return Err(Reason::NoForm);
             };
-            add_condition(cells, state, sense, threshold, &codes, count)
+            add_condition(book, state, sense, threshold, codes)
         }
-        Line::Exclusion { first, second } => add_exclusion(cells, state, first, second),
-        Line::OldZero => add_old_zero(state, top),
+        Line::Exclusion { first, second } => {
+            add_exclusion(book, state, peal::Exclusion { first, second })
+        }
+        Line::OldZero => add_old_zero(top),
     }
 }
 
 // A line; `ended` tells whether byte 10 ends it, `top` whether it is line 1.
-pub fn add_line(cells: &mut Cells, state: SoFar, line: &[u8], ended: bool, top: bool) -> Step
-    requires { Kept state cells.old }
-    ensures { LineAdded state cells.old line.now ended top result cells.new }
+pub fn add_line(
+    book: &mut Book,
+    state: SoFar,
+    line: &[u8],
+    ended: bool,
+    top: bool,
+) -> Result<SoFar, Reason>
+    requires { Bounded (so_far_of book.old state) }
+    ensures { LineAdded (so_far_of book.old state) line.now ended top result book.new }
 {
     if !limits::line_fits(line.len()) {
-        return Step::Refused(Reason::TooLong);
+        return Err(Reason::TooLong);
     }
     if !ended {
-        return Step::Refused(Reason::NoForm);
+        return Err(Reason::NoForm);
     }
-    let LineRead::Good(form) = read_line(line) else {
-        return Step::Refused(Reason::NoForm);
+    let Some(form) = read_line(line) else {
+        return Err(Reason::NoForm);
     };
-    add_form(cells, state, line, top, form)
+    add_form(book, state, line, top, form)
 }

@@ -3,40 +3,27 @@
 //   decide C S TEXT    the scored decision of condition C, up to 4294967295, on signal set S, up to 65535
 //   score C S TEXT     the score by which it is decided: hundredths and remainder
 // TEXT is all that follows the one space; in it `|` stands for byte 10.
-use printing::{print_checked, print_logger, print_score};
+use printing::{print_answer, print_decision};
 use std::io;
 use std::io::Write;
 use vectors::{after_word, book_vector, signal_set};
 
-fn run_decide<W: Write>(out: &mut W, text: &[u8]) -> io::Result<()> {
-    let v = book_vector(text);
-    let start = v.start;
-    print_logger(
-        out,
-        score::decide(&text[start..], v.condition, signal_set(v.number)),
-    )
-}
-
-fn run_score<W: Write>(out: &mut W, text: &[u8]) -> io::Result<()> {
-    let v = book_vector(text);
-    let start = v.start;
-    print_score(
-        out,
-        score::evaluate(&text[start..], v.condition, signal_set(v.number)),
-    )
-}
-
-// Answers a vector of books, and tells whether the line is one.
+// Answers a vector of books, and tells whether the line is one. Each word has its arm: no two take and give the same.
 pub fn answered<W: Write>(out: &mut W, line: &[u8]) -> io::Result<bool> {
-    let check = after_word(line, b"check ");
-    let decide = after_word(line, b"decide ");
-    let score = after_word(line, b"score ");
-    if check > 0 {
-        print_checked(out, book::check(&line[check..]))?;
-    } else if decide > 0 {
-        run_decide(out, &line[decide..])?;
-    } else if score > 0 {
-        run_score(out, &line[score..])?;
+    if let Some(text) = after_word(line, b"check ") {
+        print_answer(out, book::check(text))?;
+    } else if let Some(text) = after_word(line, b"decide ") {
+        let v = book_vector(text);
+        print_decision(
+            out,
+            score::decide(v.book, v.condition, signal_set(v.number)),
+        )?;
+    } else if let Some(text) = after_word(line, b"score ") {
+        let v = book_vector(text);
+        print_answer(
+            out,
+            score::evaluate(v.book, v.condition, signal_set(v.number)),
+        )?;
     } else {
         return Ok(false);
     }

@@ -6,9 +6,10 @@
 // TEXT is a book, all that follows the one space; in it `|` stands for byte 10. Before `compile` and `large` every word
 // of the space is marked by its index, and they tell whether the words beyond the listing, lent or not, still are
 // (`kept`).
-ghost use Rattle.std.specs.Prelude.{◌≤◌, ◌<◌, length};
+ghost use Rattle.std.specs.Prelude.{◌≤◌, ◌<◌, length, IfOk};
 
-use printing::{print, print_compiled, print_logger, print_number, print_rod, print_words};
+use compiler::CompileError;
+use printing::{print_count, print_decision, print_words};
 use std::io;
 use std::io::Write;
 use vectors::{SETS, after_word, book_vector, signal_set};
@@ -25,46 +26,29 @@ const PRIME: u64 = 1000000007;
 // By this a checksum tells the order of the words.
 const FACTOR: u64 = 31;
 
-// What rod and score say of a set, as numbers. Where neither says yes or no, the numbers differ.
-const NO: usize = 0;
-
-const YES: usize = 1;
-
-const DIFFER: usize = 2;
-
-const SCORE_DECLINED: usize = 3;
-
 // What marks word i.
 fn mark(i: usize) -> u32 {
     FIRST_MARK + (i % MARKS) as u32
 }
 
 fn put_marks(words: &mut [u32]) {
-    let mut i = 0;
-    while i < words.len() {
-        words[i] = mark(i);
-        i += 1;
+    for (i, word) in words.iter_mut().enumerate() {
+        *word = mark(i);
     }
 }
 
 // All words from index `from` on are marked.
 fn are_marked(words: &[u32], from: usize) -> bool {
-    let mut i = from;
-    while i < words.len() {
-        if words[i] != mark(i) {
-            return false;
-        }
-        i += 1;
-    }
-    true
+    words
+        .iter()
+        .enumerate()
+        .skip(from)
+        .all(|(i, word)| *word == mark(i))
 }
 
 fn print_kept<W: Write>(out: &mut W, words: &[u32], from: usize) -> io::Result<()> {
-    if are_marked(words, from) {
-        print(out, b" kept")
-    } else {
-        print(out, b" changed")
-    }
+    let kept = are_marked(words, from);
+    write!(out, "{}", if kept { " kept" } else { " changed" })
 }
 
 fn with_word(sum: u64, word: u32) -> u64
@@ -76,46 +60,35 @@ fn with_word(sum: u64, word: u32) -> u64
 
 // A sum of the words that tells their order too.
 fn checksum(words: &[u32]) -> u64 {
-    let mut sum = 0u64;
-    let mut i = 0;
-    while i < words.len() {
-        sum = with_word(sum, words[i]);
-        i += 1;
+    let mut sum = 0;
+    for word in words {
+        sum = with_word(sum, *word);
     }
     sum
 }
 
 fn print_listing<W: Write>(out: &mut W, words: &[u32], large: bool) -> io::Result<()> {
     if large {
-        print(out, b" sum ")?;
-        print_number(out, checksum(words))
+        write!(out, " sum {}", checksum(words))
     } else {
         print_words(out, words)
     }
 }
 
-// What compiling returned, and where the listing ends in the words: at 0 on a refusal.
-#[derive(Clone, Copy)]
-struct Outcome {
-    answer: compiler::Compiled,
-    end: usize,
-}
-
-fn compiled_into(bytes: &[u8], condition: u32, words: &mut [u32]) -> Outcome
-    ensures { result.end ≤ length words.old }
+// The number of records, and of words: none on a refusal.
+fn compiled_into(
+    bytes: &[u8],
+    condition: u32,
+    words: &mut [u32],
+) -> (Result<usize, CompileError>, usize)
+    ensures { result.1 ≤ length words.old }
 {
     let answer = compiler::compile(bytes, condition, words);
-    let compiler::Compiled::Records(records) = answer else {
-        return Outcome {
-            answer: answer,
-            end: 0,
-        };
+    let end = match answer {
+        Ok(records) => records * layout::RECORD_WORDS,
+        Err(_) => 0,
     };
-    let end = records * layout::RECORD_WORDS;
-    Outcome {
-        answer: answer,
-        end: end,
-    }
+    (answer, end)
 }
 
 fn run_compile<W: Write>(
@@ -126,68 +99,38 @@ fn run_compile<W: Write>(
 ) -> io::Result<()> {
     put_marks(words);
     let v = book_vector(text);
-    let start = v.start;
     let lent = v.number as usize;
     if words.len() < lent {
-        return print(out, b"no space");
+        return write!(out, "no space");
     }
-    let o = compiled_into(&text[start..], v.condition, &mut words[0..lent]);
-    let answer = o.answer;
-    let end = o.end;
-    print_compiled(out, answer)?;
-    print_listing(out, &words[0..end], large)?;
+    let (answer, end) = compiled_into(v.book, v.condition, &mut words[..lent]);
+    print_count(out, "records", answer)?;
+    print_listing(out, &words[..end], large)?;
     print_kept(out, words, end)
 }
 
 fn run_both<W: Write>(out: &mut W, text: &[u8], words: &mut [u32]) -> io::Result<()> {
     let v = book_vector(text);
-    let start = v.start;
     let set = signal_set(v.number);
-    let o = compiled_into(&text[start..], v.condition, words);
-    let answer = o.answer;
-    let end = o.end;
+    let (answer, end) = compiled_into(v.book, v.condition, words);
     if end == 0 {
-        print_compiled(out, answer)?;
+        print_count(out, "records", answer)?;
     } else {
-        print_rod(out, rod::decide(&words[0..end], set))?;
+        print_decision(out, rod::decide(&words[..end], set))?;
     }
-    print(out, b" ")?;
-    print_logger(out, score::decide(&text[start..], v.condition, set))
+    write!(out, " ")?;
+    print_decision(out, score::decide(v.book, v.condition, set))
 }
 
-fn rod_number(decision: rod::Decision) -> usize {
-    match decision {
-        rod::Decision::No => NO,
-        rod::Decision::Yes => YES,
-        _ => DIFFER,
+// What rod and score both say, if they say the same.
+fn common_answer(bytes: &[u8], condition: u32, listing: &[u32], set: u16) -> Option<bool> {
+    match (
+        rod::decide(listing, set),
+        score::decide(bytes, condition, set),
+    ) {
+        (Ok(rod), Ok(logger)) if rod == logger => Some(rod),
+        _ => None,
     }
-}
-
-fn score_number(decision: score::Decision) -> usize {
-    match decision {
-        score::Decision::No => NO,
-        score::Decision::Yes => YES,
-        _ => SCORE_DECLINED,
-    }
-}
-
-// What rod and score both say, `NO` or `YES`, or `DIFFER`.
-fn common_answer(bytes: &[u8], condition: u32, listing: &[u32], set: u16) -> usize {
-    let r = rod_number(rod::decide(listing, set));
-    let s = score_number(score::decide(bytes, condition, set));
-    if r == s { r } else { DIFFER }
-}
-
-fn print_differing<W: Write>(out: &mut W, set: usize) -> io::Result<()> {
-    print(out, b"differ ")?;
-    print_number(out, set as u64)
-}
-
-fn print_agreed<W: Write>(out: &mut W, yes: usize, no: usize) -> io::Result<()> {
-    print(out, b"agree ")?;
-    print_number(out, yes as u64)?;
-    print(out, b" ")?;
-    print_number(out, no as u64)
 }
 
 // The sets 0, step, 2 step, .. in turn.
@@ -201,50 +144,42 @@ fn print_agreement<W: Write>(
     requires { 0 < step }
 {
     let mut set = 0;
-    let mut yes = 0;
-    let mut no = 0;
+    let mut yes = 0usize;
+    let mut no = 0usize;
+    // Not a `for`: of `step_by` it is not known how many turns it has, which bounds the counts.
     while set < SETS {
-        let answer = common_answer(bytes, condition, listing, set as u16);
-        if answer >= DIFFER {
-            return print_differing(out, set);
+        match common_answer(bytes, condition, listing, set as u16) {
+            Some(true) => yes += 1,
+            Some(false) => no += 1,
+            None => return write!(out, "differ {set}"),
         }
-        yes += answer;
-        no += YES - answer;
         set += step as usize;
     }
-    print_agreed(out, yes, no)
+    write!(out, "agree {yes} {no}")
 }
 
 fn run_agree<W: Write>(out: &mut W, text: &[u8], words: &mut [u32]) -> io::Result<()> {
     let v = book_vector(text);
-    let start = v.start;
-    let step = v.number;
-    let o = compiled_into(&text[start..], v.condition, words);
-    let answer = o.answer;
-    let end = o.end;
+    let (answer, end) = compiled_into(v.book, v.condition, words);
     if end == 0 {
-        print_compiled(out, answer)
-    } else if step > 0 {
-        print_agreement(out, &text[start..], v.condition, &words[0..end], step)
+        print_count(out, "records", answer)
+    } else if v.number > 0 {
+        print_agreement(out, v.book, v.condition, &words[..end], v.number)
     } else {
-        print(out, b"no step")
+        write!(out, "no step")
     }
 }
 
-// Answers a vector of compiling, and tells whether the line is one.
+// Answers a vector of compiling, and tells whether the line is one. Each word has its arm: no two take and give the same.
 pub fn answered<W: Write>(out: &mut W, line: &[u8], words: &mut [u32]) -> io::Result<bool> {
-    let compile = after_word(line, b"compile ");
-    let large = after_word(line, b"large ");
-    let both = after_word(line, b"both ");
-    let agree = after_word(line, b"agree ");
-    if compile > 0 {
-        run_compile(out, &line[compile..], words, false)?;
-    } else if large > 0 {
-        run_compile(out, &line[large..], words, true)?;
-    } else if both > 0 {
-        run_both(out, &line[both..], words)?;
-    } else if agree > 0 {
-        run_agree(out, &line[agree..], words)?;
+    if let Some(text) = after_word(line, b"compile ") {
+        run_compile(out, text, words, false)?;
+    } else if let Some(text) = after_word(line, b"large ") {
+        run_compile(out, text, words, true)?;
+    } else if let Some(text) = after_word(line, b"both ") {
+        run_both(out, text, words)?;
+    } else if let Some(text) = after_word(line, b"agree ") {
+        run_agree(out, text, words)?;
     } else {
         return Ok(false);
     }

@@ -7,141 +7,105 @@
 // Each number stands after one space.
 ghost use Rattle.std.specs.Prelude.{◌≤◌, length};
 
-use printing::{
-    print, print_bytes, print_chosen, print_comparison, print_rod, print_traversed, print_verdict,
-};
+use printing::{print_answer, print_count, print_decision};
 use std::io;
 use std::io::Write;
-use vectors::{after_word, index_of, put_numbers, signal_set};
-
-// At most so many numbers are taken, of a line or on either side of its `/`, and at most so many answers are lent.
-const ROOM: usize = 512;
+use vectors::{ROOM, after_word, numbers, parted, signal_set};
 
 // What each lent answer holds before the call.
 const LENT: u8 = 7;
 
 fn run_verdict<W: Write>(out: &mut W, text: &[u8]) -> io::Result<()> {
-    let mut words = [0u32; ROOM];
-    let count = put_numbers(text, &mut words);
-    print_verdict(out, layout::check(&words[0..count]))
+    print_answer(out, layout::check(&numbers(text)).map(|_| "sound"))
 }
 
 fn run_choice<W: Write>(out: &mut W, text: &[u8]) -> io::Result<()> {
-    let mut words = [0u32; ROOM];
-    let count = put_numbers(text, &mut words);
-    print_chosen(out, checks::choice(&words[0..count]))
+    match checks::choice(&numbers(text)) {
+        Ok(chosen) => write!(out, "{} judged {}", chosen.choice, chosen.judged),
+        Err(refusal) => write!(out, "{refusal}"),
+    }
 }
 
 fn run_read<W: Write>(out: &mut W, text: &[u8]) -> io::Result<bool> {
-    let mut numbers = [0u32; ROOM];
-    let count = put_numbers(text, &mut numbers);
-    if count == 0 {
+    let numbers = numbers(text);
+    let Some((set, words)) = numbers.split_first() else {
         return Ok(false);
-    }
-    let set = signal_set(numbers[0]);
-    print_rod(out, rod::decide(&numbers[1..count], set))?;
+    };
+    print_decision(out, rod::decide(words, signal_set(*set)))?;
     Ok(true)
 }
 
 fn run_compare<W: Write>(out: &mut W, text: &[u8]) -> io::Result<bool> {
-    let slash = index_of(text, 0, b'/');
-    if slash == text.len() {
+    let Some((one, two)) = parted(text, b'/') else {
         return Ok(false);
-    }
-    let mut one = [0u32; ROOM];
-    let mut two = [0u32; ROOM];
-    let first = put_numbers(&text[0..slash], &mut one);
-    let second = put_numbers(&text[slash + 1..], &mut two);
-    print_comparison(out, checks::compare(&one[0..first], &two[0..second]))?;
+    };
+    print_answer(out, checks::compare(&numbers(one), &numbers(two)))?;
     Ok(true)
 }
 
-// The sets that the numbers give, one for each place.
-fn put_sets(numbers: &[u32], sets: &mut [u16])
-    requires { length sets.old ≤ length numbers.now }
-{
-    let mut i = 0;
-    while i < sets.len() {
-        sets[i] = signal_set(numbers[i]);
-        i += 1;
-    }
-}
-
+// Sets and answers are lent as slices, as the call takes them.
 fn traverse_sets<W: Write>(
     out: &mut W,
     numbers: &[u32],
     words: &[u32],
     sets: &mut [u16],
     answers: &mut [u8],
-) -> io::Result<()>
-    requires { length sets.old ≤ length numbers.now }
-{
-    put_sets(numbers, sets);
-    print_traversed(out, rod::traverse(words, sets, answers))?;
-    print(out, b" left")?;
-    print_bytes(out, answers)
+) -> io::Result<()> {
+    for (set, number) in sets.iter_mut().zip(numbers) {
+        *set = signal_set(*number);
+    }
+    print_count(out, "answered", rod::traverse(words, sets, answers))?;
+    write!(out, " left")?;
+    for answer in answers {
+        write!(out, " {answer}")?;
+    }
+    Ok(())
 }
 
-// As a function, since of a parameter it is known that it fits its type.
-fn wide(number: u32) -> usize {
-    number as usize
-}
-
-// The first number is how many answers are lent, the others are the sets. There is room for all of them.
+// The first number is how many answers are lent, at most as many as there is room for; the others are the sets.
 fn traverse_numbers<W: Write>(out: &mut W, numbers: &[u32], words: &[u32]) -> io::Result<bool>
     requires { length numbers.now ≤ 512 }
 {
-    if numbers.len() == 0 {
+    let Some((lent, asked)) = numbers.split_first() else {
         return Ok(false);
-    }
-    let lent = wide(numbers[0]);
+    };
+    let lent = *lent as usize;
     if lent > ROOM {
         return Ok(false);
     }
-    let asked = numbers.len() - 1;
     let mut sets = [0u16; ROOM];
     let mut answers = [LENT; ROOM];
     traverse_sets(
         out,
-        &numbers[1..],
+        asked,
         words,
-        &mut sets[0..asked],
-        &mut answers[0..lent],
+        &mut sets[..asked.len()],
+        &mut answers[..lent],
     )?;
     Ok(true)
 }
 
 fn run_traverse<W: Write>(out: &mut W, text: &[u8]) -> io::Result<bool> {
-    let slash = index_of(text, 0, b'/');
-    if slash == text.len() {
+    let Some((left, right)) = parted(text, b'/') else {
         return Ok(false);
-    }
-    let mut numbers = [0u32; ROOM];
-    let mut words = [0u32; ROOM];
-    let first = put_numbers(&text[0..slash], &mut numbers);
-    let second = put_numbers(&text[slash + 1..], &mut words);
-    traverse_numbers(out, &numbers[0..first], &words[0..second])
+    };
+    traverse_numbers(out, &numbers(left), &numbers(right))
 }
 
-// Answers a vector of listings, and tells whether the line is one.
+// Answers a vector of listings, and tells whether the line is one. Each word has its arm: no two take and give the same.
 pub fn answered<W: Write>(out: &mut W, line: &[u8]) -> io::Result<bool> {
-    let verdict = after_word(line, b"verdict");
-    let read = after_word(line, b"read");
-    let choice = after_word(line, b"choice");
-    let compare = after_word(line, b"compare");
-    let traverse = after_word(line, b"traverse");
-    if verdict > 0 {
-        run_verdict(out, &line[verdict..])?;
+    if let Some(text) = after_word(line, b"verdict") {
+        run_verdict(out, text)?;
         Ok(true)
-    } else if read > 0 {
-        run_read(out, &line[read..])
-    } else if choice > 0 {
-        run_choice(out, &line[choice..])?;
+    } else if let Some(text) = after_word(line, b"read") {
+        run_read(out, text)
+    } else if let Some(text) = after_word(line, b"choice") {
+        run_choice(out, text)?;
         Ok(true)
-    } else if compare > 0 {
-        run_compare(out, &line[compare..])
-    } else if traverse > 0 {
-        run_traverse(out, &line[traverse..])
+    } else if let Some(text) = after_word(line, b"compare") {
+        run_compare(out, text)
+    } else if let Some(text) = after_word(line, b"traverse") {
+        run_traverse(out, text)
     } else {
         Ok(false)
     }

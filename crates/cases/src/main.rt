@@ -7,10 +7,10 @@ mod books;
 mod compiling;
 mod listings;
 
-use printing::{print, print_end, read_full};
+use printing::read_full;
 use std::io;
 use std::io::Write;
-use vectors::{after_word, index_of, put_line_ends};
+use vectors::put_line_ends;
 
 // Room for the vectors: what comes after so many bytes is not read.
 const VECTORS: usize = 262144;
@@ -28,12 +28,12 @@ fn run_vector<W: Write>(out: &mut W, line: &[u8], space: &mut [u32]) -> io::Resu
     if compiling::answered(out, line, space)? {
         return Ok(());
     }
-    print(out, b"no vector")
+    write!(out, "no vector")
 }
 
 fn run_line<W: Write>(out: &mut W, line: &mut [u8], space: &mut [u32]) -> io::Result<()> {
-    if after_word(line, b"#") > 0 {
-        return print(out, line);
+    if line.starts_with(b"#") {
+        return out.write_all(line);
     }
     put_line_ends(line);
     run_vector(out, line, space)
@@ -41,11 +41,14 @@ fn run_line<W: Write>(out: &mut W, line: &mut [u8], space: &mut [u32]) -> io::Re
 
 fn run_lines<W: Write>(out: &mut W, text: &mut [u8], space: &mut [u32]) -> io::Result<()> {
     let mut at = 0;
+    // Not a `for`: over `split_inclusive_mut` it gets no proof in a generic function.
     while at < text.len() {
-        let end = index_of(text, at, b'\n');
-        run_line(out, &mut text[at..end], space)?;
-        print_end(out)?;
-        at = end + 1;
+        let rest = &mut text[at..];
+        let end = rest.iter().position(|byte| *byte == b'\n');
+        let length = end.unwrap_or(rest.len());
+        run_line(out, &mut rest[..length], space)?;
+        writeln!(out)?;
+        at += length + 1;
     }
     Ok(())
 }
@@ -54,5 +57,5 @@ fn main(rt: HostRuntime) -> io::Result<()> {
     let mut text = [0u8; VECTORS];
     let length = read_full(&mut rt.stdin(), &mut text)?;
     let mut space = [0u32; SPACE];
-    run_lines(&mut rt.stdout(), &mut text[0..length], &mut space)
+    run_lines(&mut rt.stdout(), &mut text[..length], &mut space)
 }

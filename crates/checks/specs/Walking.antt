@@ -1,36 +1,20 @@
 -- The walk of the checks, a group at a time, for inner contracts only.
-use Rattle.std.specs.Prelude.{ℕ, ◌+◌, ◌*◌, ◌≤◌, ◌<◌, Bool, true, false, not, ◌&&◌, List, ◌≡◌, length, get_or}
+use Rattle.std.specs.Prelude
+use Rattle.std.specs.Prelude.{ℕ, ◌+◌, ◌*◌, ◌≤◌, ◌<◌, Bool, true, false, not, ◌&&◌, List, ◌≡◌, get_or}
 use Rattle.std.specs.Bool.{beq}
-use Rattle.std.proofs.Math.Option.{Option, none, some}
+use Rattle.std.proofs.Math.Option.{Option, some}
 use Rattle.answers.specs.Answers.{Answer, result}
+use Rattle.arith.specs.Options.{told}
 use Rattle.arith.specs.Lists.{count_below}
 use Rattle.signals.specs.Sets.{present}
 use Rattle.blocks.specs.Blocks.{BlockOf}
 use Rattle.groups.specs.Groups.{group_set, GroupOf}
 use Rattle.checks.specs.Checks.{lowest_from, choice_of, Chosen}
-use Rattle.checks.specs.declared.Found.{Found}
-use Rattle.checks.specs.declared.Found.TheVariants.{At, Nowhere}
-
--- a lowest set, if there is one
-abbrev pub found_meaning : Found → Option ℕ
-found_meaning (At set) = some set
-found_meaning Nowhere = none
 
 -- the answer, from what the empty set gives, the lowest set that gives the other answer, and how many sets were judged
 abbrev pub chosen_by : Bool → Option ℕ → ℕ → Answer Chosen
 chosen_by true other j = result (record { choice = choice_of (some 0) other; judged = j })
 chosen_by false other j = result (record { choice = choice_of other (some 0); judged = j })
-
--- the first 16 words tell of the blocks of a group
-abbrev pub HasBlocks : List ℕ → Type 0
-HasBlocks table = 16 ≤ length table
-
--- so do those of the four tables by which the lowest set of a group is found
-pub record FourTables (barred also first second : List ℕ) : Type 0 where
-  pub barred_there : HasBlocks barred
-  pub also_there : HasBlocks also
-  pub first_there : HasBlocks first
-  pub second_there : HasBlocks second
 
 -- of any test of the block's sets that a word tells, this set is the lowest that passes it
 abbrev pub LowestIn : ℕ → ℕ → ℕ → Type 0
@@ -48,10 +32,10 @@ GroupApart test group barred also first second =
     → apart_bit (get_or barred k 0) (get_or also k 0) (get_or first k 0) (get_or second k 0) j ≡ test (group_set group k j)
 
 -- what was found is the lowest set of the group that passes such a test
-abbrev pub LowestInGroup : ℕ → (barred also first second : List ℕ) → Found → Type 0
+abbrev pub LowestInGroup : ℕ → (barred also first second : List ℕ) → Prelude.Option ℕ → Type 0
 LowestInGroup group barred also first second found =
     (test : ℕ → Bool) → GroupApart test group barred also first second
-    → found_meaning found ≡ lowest_from 1024 (1024 * group) test
+    → told found ≡ lowest_from 1024 (1024 * group) test
 
 -- where a table tells which sets of a group fail a test, and without pairs none fails: so many of them pass it, up to
 -- the one of place `last`, which is looked at too

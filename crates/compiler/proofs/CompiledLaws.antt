@@ -1,6 +1,7 @@
 -- What compiling made where it returned a number of records.
 use Prim.Native.Nat.{ℕ, ◌*◌, ◌≤◌}
 use mathlib.Core.List.{List, ◌++◌}
+use Rattle.std.specs.Prelude.{Result, Ok}
 use mathlib.Core.Path.{◌≡◌, sym, ap, ◌∙◌}
 use native.Mathlib.Omega.{arith}
 use lib.Dec.{leb}
@@ -16,8 +17,7 @@ use Rattle.translation.specs.Translation.{listing_records}
 use Rattle.book.specs.Books.{asked}
 use Rattle.compiler.specs.Compiling.{fitting, compiled, returned, lent_after, left_by, compiled_listing}
 use Rattle.compiler.specs.Meaning.{compiled_meaning, CompilingRan}
-use Rattle.compiler.specs.declared.Compiled.{Compiled}
-use Rattle.compiler.specs.declared.Compiled.TheVariants.{Records}
+use Rattle.compiler.specs.declared.CompileError.{CompileError}
 
 -- the condition's listing, which had room
 pub record CompiledFrom (bytes : List ℕ) (number : ℕ) (lent : List ℕ) (n : ℕ) : Type 0 where
@@ -51,6 +51,6 @@ compiled-from bytes number lent n e =
     }
 
 -- the same, from the promise of `compile` where it returned that number
-pub returned-from : {bytes : List ℕ} {number : ℕ} {lent left : List ℕ} {answer : Compiled} {n : ℕ}
-    → CompilingRan bytes number lent left answer → answer ≡ Records n → CompiledFrom bytes number lent n
+pub returned-from : {bytes : List ℕ} {number : ℕ} {lent left : List ℕ} {answer : Result ℕ CompileError} {n : ℕ}
+    → CompilingRan bytes number lent left answer → answer ≡ Ok n → CompiledFrom bytes number lent n
 returned-from {bytes} {number} {lent} {n = n} ran e = compiled-from bytes number lent n (sym (in-arm compiled_meaning ran.returning e))

@@ -1,17 +1,17 @@
 -- What is found from a point of the search on.
-use Prim.Native.Nat.{ℕ, suc, ◌-◌, ◌^◌, ◌≤◌, ◌<◌}
+use Prim.Native.Nat.{ℕ, suc, ◌+◌, ◌^◌, ◌≤◌}
 use mathlib.Core.Bool.{Bool, true, false, cond}
 use mathlib.Core.List.{List, [], ◌∷◌, ◌++◌}
 use mathlib.Core.Path.{◌≡◌, ap, ◌∙◌}
 use native.Mathlib.Nat.{le_trans, pow-suc, pow-le-pow_right}
 use native.Mathlib.Omega.{arith}
-use lib.IntN.{ℤ}
 use lib.ListN.{length, length-append}
 use Rattle.peal.specs.Policies.{Rule}
 use Rattle.peal.specs.Search.{found_from}
-use Rattle.peal.specs.declared.Operator.{Operator}
 use Rattle.compiler.specs.Planning.{rest_of}
 use Rattle.compiler.specs.Searching.{Point, having, all_at, taking, found, Searching}
+use Rattle.compiler.specs.declared.planning.Plan.{Plan}
+use Rattle.compiler.specs.declared.searching.Taken.{Taken}
 use Rattle.compiler.proofs.RestLaws.{no-rest}
 use Rattle.compiler.proofs.PointLaws.{all-range, coming}
 
@@ -39,7 +39,7 @@ from-few property X (r ∷ rest) = go (property (X ++ (r ∷ rest))) (property Y
     go true false m n = both (found_from property Y rest) m n
     go false b m n = omega arith
 
-pub found-few : {op : Operator} {plan : List ℤ} {count : ℕ} {value : ℤ} {left : ℕ} {p : Point} → Searching op plan count value left p → length (found p left) ≤ 65536
+pub found-few : {plan : Plan} {taken : Taken} {left : ℕ} {p : Point} → Searching plan taken left p → length (found p left) ≤ 65536
 unfolding found
 found-few {left = left} {p = p} h =
     let rest = rest_of left p.policy.rules in
@@ -60,16 +60,16 @@ pub tried-further : (p : Point) (left : ℕ) → having p p.taken ≡ false → 
 unfolding tried
 tried-further p left h = rw h
 
-module _ {op : Operator} {plan : List ℤ} {count : ℕ} {value : ℤ} {left : ℕ} {p : Point} (some : 0 < left) (h : Searching op plan count value left p) where
+module _ {plan : Plan} {taken : Taken} (left : ℕ) {p : Point} (h : Searching plan taken (left + 1) p) where
   -- by whether all the rules have the property
-  found-by : {b : Bool} → having p (all_at p left) ≡ b → found p left ≡ cond b (tried (taking p left) (left - 1) ++ found p (left - 1)) []
+  found-by : {b : Bool} → having p (all_at p (left + 1)) ≡ b → found p (left + 1) ≡ cond b (tried (taking p (left + 1)) left ++ found p left) []
   unfolding found tried found_from
-  found-by e = rw (coming some h, rw (coming some h) at e)
+  found-by e = rw (coming left h, rw (coming left h) at e)
 
-  pub nothing-found : having p (all_at p left) ≡ false → found p left ≡ []
+  pub nothing-found : having p (all_at p (left + 1)) ≡ false → found p (left + 1) ≡ []
   nothing-found e = found-by e
 
-  pub found-further : having p (all_at p left) ≡ true → found p left ≡ tried (taking p left) (left - 1) ++ found p (left - 1)
+  pub found-further : having p (all_at p (left + 1)) ≡ true → found p (left + 1) ≡ tried (taking p (left + 1)) left ++ found p left
   found-further e = found-by e
 
 pub found_none : (p : Point) (k : ℕ) → k ≤ 0 → found p k ≡ []

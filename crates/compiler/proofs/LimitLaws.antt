@@ -7,10 +7,11 @@ use native.Mathlib.Numerals.{add-one}
 use native.Mathlib.Omega.{arith}
 use lib.Dec.{ltb}
 use lib.IntN.{ℤ, pos, negsuc, neg_ℤ, ◌*ℤ◌}
-use lib.Signed.{mag, lt_z}
-use borrow.Author.Tests.{le-ltb, ltb-false}
+use lib.Signed.{mag}
+use borrow.Author.Tests.{le-ltb, lt-ltb, ltb-false}
 use mir.Syntax.{w64}
 use mir.Val.{SFits}
+use Rattle.std.specs.Int.{int_min, int_max}
 use Rattle.arith.proofs.Order.{scale-scale}
 use Rattle.arith.proofs.Whole.{times-one}
 use Rattle.peal.specs.declared.Operator.{Operator}
@@ -62,19 +63,18 @@ next-hundredfold o m limit t k e =
     ∙ scale-scale (clamped t) (100 ^ k) 100 ∙ ap (λ (n : ℕ). clamped t *ℤ pos n) h
     ∙ ap (λ (x : Operator). limit_of x t (k + 1)) (sym m)
 
--- ---- the code's tests
+-- ---- the first limit
 
-pub clamped-below : (t : ℤ) → lt_z t (pos 0) ≡ true → negsuc 0 ≡ clamped t
+-- the library's way to clamp
+pub clamped-as : (t : ℤ) → int_max (negsuc 0) (int_min t (pos 100)) ≡ clamped t
 unfolding clamped
-clamped-below t h = rw h
-
-pub clamped-above : (t : ℤ) → lt_z t (pos 0) ≡ false → lt_z (pos 100) t ≡ true → pos 100 ≡ clamped t
-unfolding clamped
-clamped-above t h k = rw (h, k)
-
-pub clamped-same : (t : ℤ) → lt_z t (pos 0) ≡ false → lt_z (pos 100) t ≡ false → t ≡ clamped t
-unfolding clamped
-clamped-same t h k = rw (h, k)
+clamped-as (negsuc zero) = refl
+clamped-as (negsuc (suc t)) = rw (lt-ltb 0 (suc t) (omega arith))
+clamped-as (pos t) = rw (le-ltb t 0 (omega arith)) (go (ltb 100 t))
+  where
+    go : (b : Bool) → int_max (negsuc 0) (cond b (pos 100) (pos t)) ≡ cond b (pos 100) (pos t)
+    go true = refl
+    go false = refl
 
 pub clamped-limit : (t : ℤ) → clamped t ≡ limit_of Mul t 0
 unfolding limit_of

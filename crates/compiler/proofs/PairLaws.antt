@@ -1,26 +1,27 @@
 -- The records of the exclusions, one after the other.
 use Prim.Native.Nat.{ℕ, ◌+◌, ◌≤◌, ◌<◌}
-use mathlib.Core.List.{List, [], ◌∷◌, map}
+use mathlib.Core.Bool.{not, ◌&&◌}
+use mathlib.Core.List.{List, ◌∷◌, map}
 use mathlib.Core.Path.{◌≡◌, sym, ap, ◌∙◌}
 use native.Mathlib.Numerals.{add-one}
-use native.Mathlib.Omega.{arith}
+use lib.Dec.{leb, eqb}
 use lib.ListN.{length, get_or, drop, drop_of_length-le}
 use lib.Seq.{drop-cons}
-use Rattle.signals.specs.Sets.{set_of}
+use borrow.Author.Tests.{leb-true}
+use Rattle.arith.proofs.Tests.{and_left, and_right}
 use Rattle.layout.specs.Records.{exclusion_kind}
 use Rattle.layout.specs.Nodes.{exclusion_records}
 use Rattle.layout.specs.Writing.{put_record, put_records}
 use Rattle.peal.specs.Policies.{Exclusion}
 use Rattle.translation.specs.Translation.{pair_mask}
 use Rattle.peal.specs.Standins.{no_exclusion}
+use Rattle.book.specs.Ranges.{ExclusionInRange}
 
--- the bits of two signals make the mask of their pair
-pub two-bits : {f s p q : ℕ} (x : Exclusion) → f ≡ x.first → s ≡ x.second → p ≡ set_of (f ∷ []) → q ≡ set_of (s ∷ []) → p + q ≡ pair_mask x
-unfolding pair_mask set_of
-two-bits x f-is s-is p-is q-is =
-    let a = p-is ∙ ap (λ (n : ℕ). set_of (n ∷ [])) f-is in
-    let b = q-is ∙ ap (λ (n : ℕ). set_of (n ∷ [])) s-is in
-    omega arith
+-- the two signals of an exclusion are two of 16
+pub pair-small : (x : Exclusion) → ExclusionInRange x → (x.first ≤ 15) × (x.second ≤ 15)
+pair-small x range =
+    let both = and_left (leb x.first 15 && leb x.second 15) (not (eqb x.first x.second)) range in
+    (leb-true x.first 15 (and_left (leb x.first 15) (leb x.second 15) both), leb-true x.second 15 (and_right (leb x.first 15) (leb x.second 15) both))
 
 -- writing the records of the exclusions from i on makes what writing all of them makes
 abbrev pub PairsTo : List Exclusion → ℕ → (lent words : List ℕ) → Type 0

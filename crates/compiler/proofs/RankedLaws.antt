@@ -12,15 +12,14 @@ use Rattle.peal.proofs.RankLaws.{ranked-reordered}
 use Rattle.book.specs.Acceptance.{score_in_range}
 use Rattle.book.specs.Ranges.{PolicyInRange}
 use Rattle.book.proofs.RangeLaws.{rules-at-most}
-use Rattle.ranking.specs.RankOrder.{with_rules, in_rank_order}
-use Rattle.compiler.specs.Planning.{RulesInRange}
+use Rattle.compiler.specs.Planning.{in_rank_order, RulesInRange}
 
 pub ranked-length : (q : Policy) → length (in_rank_order q).rules ≡ length q.rules
-unfolding in_rank_order with_rules
+unfolding in_rank_order
 ranked-length q = sym (length-reordered (Permᴰ.symm (ranked-reordered q.operator q.rules)))
 
 pub ranked-in-range : (q : Policy) → PolicyInRange q → RulesInRange (in_rank_order q).operator (in_rank_order q).rules
-unfolding in_rank_order with_rules
+unfolding in_rank_order
 ranked-in-range q h =
     let p = Permᴰ.symm (ranked-reordered q.operator q.rules) in
     let n = ranked-length q in

@@ -4,7 +4,7 @@ use mathlib.Core.List.{List, [], ◌∷◌}
 use mathlib.Core.Path.{◌≡◌, refl, sym, ap, subst, ◌∙◌}
 use native.Mathlib.Nat.{le_trans, pow-le-pow_right}
 use native.Mathlib.Omega.{arith}
-use lib.IntN.{ℤ, pos}
+use lib.IntN.{ℤ}
 use lib.ListN.{length, get_or, drop, length-drop, drop_of_length-le}
 use lib.Seq.{drop-cons}
 use lib.Signed.{mag}
@@ -20,9 +20,6 @@ use Rattle.peal.specs.declared.Operator.TheVariants.{Min, Max, Sum, Mul}
 use Rattle.peal.proofs.HavingLaws.{product-natural}
 use Rattle.peal.proofs.TwoLaws.{one_of_two}
 use Rattle.book.specs.Acceptance.{within, score_in_range}
-use Rattle.book.specs.Cells.{stored_policy}
-use Rattle.book.specs.declared.cells.Policy.{Policy as StoredPolicy}
-use Rattle.book.proofs.StoredRules.{count-is, signal-at, score-at}
 use Rattle.book.proofs.ScoreSizes.{score-mag, InScore, InRange, Room}
 use Rattle.compiler.specs.Worth.{initial, worth}
 use Rattle.compiler.specs.Planning.{rest_of, next_rule, RulesInRange}
@@ -107,16 +104,3 @@ range-rest o rules k h =
 pub next-signal : (q : Policy) (k : ℕ) → 0 < k → k ≤ length q.rules → RulesInRange q.operator q.rules → (next_rule q k).signal < 16
 unfolding next_rule
 next-signal q k some inside h = each-get (λ (r : Rule). r.signal < 16) q.rules (length q.rules - k) no_rule h.signals (omega arith)
-
--- ---- the first of the k rules of lowest rank, as a stored policy has it
-
-module _ (p : StoredPolicy) (q : Policy) (e : p ≡ stored_policy q) (k : ℕ) (some : 0 < k) (inside : k ≤ p.count) where
-  stored_next : get_or q.rules (p.count - k) no_rule ≡ next_rule q k
-  unfolding next_rule
-  stored_next = ap (λ (n : ℕ). get_or q.rules (n - k) no_rule) (count-is p q e)
-
-  pub stored-signal : get_or p.signals (p.count - k) 0 ≡ (next_rule q k).signal
-  stored-signal = signal-at p q e (p.count - k) (omega arith) ∙ ap (λ (r : Rule). r.signal) stored_next
-
-  pub stored-score : get_or p.scores (p.count - k) (pos 0) ≡ (next_rule q k).score
-  stored-score = score-at p q e (p.count - k) (omega arith) ∙ ap (λ (r : Rule). r.score) stored_next

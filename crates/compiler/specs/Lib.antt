@@ -4,4 +4,5 @@ pub mod Computing
 pub mod Worth
 pub mod Planning
 pub mod Searching
+pub mod Putting
 pub mod Nodes

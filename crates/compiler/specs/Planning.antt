@@ -1,21 +1,24 @@
 -- What the code keeps for the search through a policy's rules in falling rank.
-use Rattle.std.specs.Prelude.{ℕ, ◌+◌, ◌-◌, ◌*◌, ◌≤◌, ◌<◌, true, List, [], ◌∷◌, ◌≡◌, ℤ, pos, length, get_or, drop}
-use Rattle.std.proofs.lemmas.List.Edits.{sets}
+use Rattle.std.specs.Prelude.{ℕ, ◌+◌, ◌-◌, ◌≤◌, ◌<◌, true, List, [], ◌∷◌, ◌≡◌, ℤ, pos, length, get_or, drop}
 use Rattle.arith.specs.Members.{Each}
 use Rattle.signals.specs.Sets.{set_of}
 use Rattle.peal.specs.Policies.{Rule, Policy}
 use Rattle.peal.specs.Standins.{no_rule}
+use Rattle.peal.specs.Ranking.{ranked}
 use Rattle.peal.specs.declared.Operator.{Operator}
 use Rattle.peal.specs.declared.Operator.TheVariants.{Mul}
 use Rattle.limits.specs.Limits.{score_in_range, threshold_in_range}
-use Rattle.book.specs.Cells.{most_rules}
-use Rattle.book.specs.Ranges.{PolicyKept}
-use Rattle.ranking.specs.RankOrder.{in_rank_order}
 use Rattle.compiler.specs.Worth.{worth, limit_of}
+use Rattle.compiler.specs.declared.planning.Row.{Row}
+use Rattle.compiler.specs.declared.planning.Plan.{Plan}
 
 -- T is in range
 abbrev pub ThresholdFits : ℤ → Type 0
 ThresholdFits t = threshold_in_range t ≡ true
+
+-- the policy with its rules in falling rank
+unfoldable pub in_rank_order : Policy → Policy
+in_rank_order q = record { operator = q.operator; default = q.default; rules = ranked q.operator q.rules }
 
 -- the k rules of lowest rank, of rules in falling rank
 unfoldable pub rest_of : ℕ → List Rule → List Rule
@@ -29,57 +32,30 @@ next_rule q k = get_or q.rules (length q.rules - k) no_rule
 pub record RulesInRange (o : Operator) (rules : List Rule) : Type 0 where
   pub signals : Each (λ (r : Rule). r.signal < 16) rules
   pub scores : Each (λ (r : Rule). score_in_range o r.score ≡ true) rules
-  pub few : length rules ≤ most_rules
+  pub few : length rules ≤ 16
   pub room : o ≡ Mul → length rules ≤ 8
 
--- ---- the plan: a row of four cells for each number k of rules
+-- ---- the plan
 
--- where row k begins, with its limit; after it, the operator over the k rules, and the score and the bit of the first of them
-abbrev pub row_from : ℕ → ℕ
-row_from k = k * 4
+-- no row
+abbrev pub no_row : Row
+no_row = record { limit = pos 0; rest = pos 0; score = pos 0; bit = 0 }
 
-abbrev pub rest_cell : ℕ → ℕ
-rest_cell k = row_from k + 1
+-- row k
+abbrev pub row_at : Plan → ℕ → Row
+row_at plan k = get_or plan.rows.items k no_row
 
-abbrev pub next_score_cell : ℕ → ℕ
-next_score_cell k = row_from k + 2
-
-abbrev pub next_bit_cell : ℕ → ℕ
-next_bit_cell k = row_from k + 3
-
--- the limit of the sets of k rules
-abbrev pub plan_limit : List ℤ → ℕ → ℤ
-plan_limit plan k = get_or plan (row_from k) (pos 0)
-
--- the operator over the k rules of lowest rank
-abbrev pub plan_rest : List ℤ → ℕ → ℤ
-plan_rest plan k = get_or plan (rest_cell k) (pos 0)
-
--- the score of the first of these
-abbrev pub plan_score : List ℤ → ℕ → ℤ
-plan_score plan k = get_or plan (next_score_cell k) (pos 0)
-
--- its bit
-abbrev pub plan_bit : List ℤ → ℕ → ℤ
-plan_bit plan k = get_or plan (next_bit_cell k) (pos 0)
-
--- row k written
-unfoldable pub with_row : List ℤ → ℕ → (limit rest score bit : ℤ) → List ℤ
-with_row plan k limit rest score bit = sets plan (row_from k) (limit ∷ rest ∷ score ∷ bit ∷ [])
-
--- what row k holds; of no rules there is no first
-pub record Row (plan : List ℤ) (q : Policy) (t : ℤ) (k : ℕ) : Type 0 where
-  pub limit : plan_limit plan k ≡ limit_of q.operator t k
-  pub rest : plan_rest plan k ≡ worth q.operator (rest_of k q.rules)
-  pub score : 0 < k → plan_score plan k ≡ (next_rule q k).score
-  pub bit : 0 < k → plan_bit plan k ≡ pos (set_of ((next_rule q k).signal ∷ []))
+-- what row k holds: the limit of the sets of k rules, the operator over the k rules of lowest rank, and the score and the bit of the first of these
+pub record RowFor (row : Row) (q : Policy) (t : ℤ) (k : ℕ) : Type 0 where
+  pub limit : row.limit ≡ limit_of q.operator t k
+  pub rest : row.rest ≡ worth q.operator (rest_of k q.rules)
+  pub score : 0 < k → row.score ≡ (next_rule q k).score
+  pub bit : 0 < k → row.bit ≡ set_of ((next_rule q k).signal ∷ [])
 
 -- the plan is that of a policy whose rules stand in falling rank, under threshold t
-pub record PlanFor (plan : List ℤ) (q : Policy) (t : ℤ) : Type 0 where
+pub record PlanFor (plan : Plan) (q : Policy) (t : ℤ) : Type 0 where
+  pub operator : plan.operator ≡ q.operator
   pub range : RulesInRange q.operator q.rules
   pub fits : ThresholdFits t
-  pub rows : (k : ℕ) → k ≤ length q.rules → Row plan q t k
-
--- the plan is that of policy k, with its rules in falling rank
-abbrev pub PlanKept : List ℤ → ℕ → ℤ → List ℤ → Type 0
-PlanKept cells k t plan = (h : PolicyKept cells k) → PlanFor plan (in_rank_order h.policy) t
+  pub count : length plan.rows.items ≡ length q.rules + 1
+  pub rows : (k : ℕ) → k ≤ length q.rules → RowFor (row_at plan k) q t k

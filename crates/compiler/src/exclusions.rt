@@ -1,33 +1,33 @@
 // The records of the book's exclusions, with which every listing begins.
 // For this crate only: no other can name these functions, and each call is proved to meet its condition.
-ghost use Rattle.std.specs.Prelude.{◌≡◌, get_or};
-ghost use Rattle.peal.specs.Standins.{no_exclusion};
+ghost use Rattle.std.specs.Prelude.{◌≡◌, map, length};
+ghost use Rattle.layout.specs.Nodes.{exclusion_records};
+ghost use Rattle.layout.specs.Writing.{RoomFor, put_records};
 ghost use Rattle.translation.specs.Translation.{pair_mask};
-ghost use Rattle.book.specs.Cells.{ForExclusions};
-ghost use Rattle.book.specs.Ranges.{ExclusionKept};
-ghost use Rattle.compiler.specs.Nodes.{ExclusionsFit, ExclusionsPut};
+ghost use Rattle.book.specs.Ranges.{ExclusionInRange};
 
-// The set of the two signals of exclusion i.
-fn pair_mask(cells: &book::Cells, i: usize) -> u32
-    requires { ExclusionKept cells.now i }
-    ensures { ForExclusions cells.now (λ xs. result ≡ pair_mask (get_or xs i no_exclusion)) }
+// The set of the two signals of an exclusion.
+fn pair_mask(exclusion: peal::Exclusion) -> u32
+    requires { ExclusionInRange exclusion }
+    ensures { result ≡ pair_mask exclusion }
 {
-    let first = book::first_at(cells, i);
-    let second = book::second_at(cells, i);
-    signals::bit(first) + signals::bit(second)
+    signals::bit(exclusion.first) + signals::bit(exclusion.second)
 }
 
 // The records of all exclusions, from record 1 on.
-pub fn put_exclusions(cells: &book::Cells, words: &mut [u32])
-    requires { ExclusionsFit cells.now words.old }
-    ensures { ExclusionsPut cells.now words.old words.new }
+pub fn put_exclusions(book: &book::Book, words: &mut [u32])
+    requires { RoomFor 1 (length book.now.exclusions) words.old }
+    ensures { words.new ≡ put_records words.old 1 (exclusion_records 1 (map pair_mask book.now.exclusions)) }
 {
-    let all = book::exclusion_count(cells);
-    let mut i = 0;
-    while i < all {
-        let mask = pair_mask(cells, i);
+    let exclusions = book.exclusions();
+    for (i, exclusion) in exclusions.iter().enumerate() {
         let at = i + 1;
-        layout::put_record(words, at, layout::EXCLUSION, mask, 0, (at + 1) as u32);
-        i += 1;
+        let record = layout::Record {
+            kind: layout::EXCLUSION,
+            mask: pair_mask(*exclusion),
+            lines: 0,
+            next: (at + 1) as u32,
+        };
+        layout::put_record(words, at, record);
     }
 }

@@ -1,27 +1,31 @@
-// The plan: what the search asks again and again, worked out once for a policy and a threshold.
-// It is an array of numbers, so that it can be lent to the search; a struct would be copied at every call.
+// The plan: what the search asks again and again, worked out once for a policy and a threshold, and lent to it.
 // For this crate only: no other can name these functions, and each call is proved to meet its condition.
 ghost use Rattle.std.specs.Prelude.{◌≡◌, ◌^◌, ◌≤◌};
 ghost use Rattle.std.specs.Int.Signed.{mag};
-ghost use Rattle.book.specs.Cells.{most_rules};
-ghost use Rattle.book.specs.Ranges.{PolicyKept};
 ghost use Rattle.compiler.specs.Worth.{initial as initial_of, clamped as clamped_of, limit_of, NextLimit};
-ghost use Rattle.compiler.specs.Planning.{ThresholdFits, with_row, PlanKept};
+ghost use Rattle.compiler.specs.Planning.{ThresholdFits, in_rank_order, PlanFor};
 
-// The plan has a row of four cells for each number k of rules, none too. First stands the limit of the sets of k rules;
-// after it, at these places, the operator over the k rules of lowest rank, and the score and the bit of the first of
-// these.
-pub const ROW: usize = 4;
+use arrayvec::ArrayVec;
 
-pub const REST: usize = 1;
+// What the plan has for a number of rules.
+#[derive(Clone, Copy, Default)]
+pub struct Row {
+    // The limit of the sets of so many rules.
+    pub limit: i64,
+    // The operator over so many rules of lowest rank, and the score and the bit of the first of these.
+    pub rest: i64,
+    pub score: i64,
+    pub bit: u32,
+}
 
-pub const SCORE: usize = 2;
+// A row for each number of rules, none too.
+const ROWS: usize = book::MOST_RULES + 1;
 
-pub const BIT: usize = 3;
-
-const PLAN_CELLS: usize = (book::MOST_RULES + 1) * ROW;
-
-pub type Plan = [i64; PLAN_CELLS];
+#[derive(Drop)]
+pub struct Plan {
+    pub operator: peal::Operator,
+    pub rows: ArrayVec<Row, ROWS>,
+}
 
 // Beyond every threshold, on either side.
 const BELOW_ALL: i64 = -200001;
@@ -35,14 +39,7 @@ pub const UNIT: i64 = 100;
 fn clamped(threshold: i32) -> i64
     ensures { result ≡ clamped_of threshold }
 {
-    let wide = threshold as i64;
-    if wide < 0 {
-        return -1;
-    }
-    if UNIT < wide {
-        return UNIT;
-    }
-    wide
+    (threshold as i64).clamp(-1, UNIT)
 }
 
 // The limit for no rule, from which the others are made: the search tries no set without a rule.
@@ -78,41 +75,34 @@ pub fn initial(operator: peal::Operator) -> i64
     }
 }
 
-// The row for k rules.
-fn put_row(plan: &mut Plan, k: usize, limit: i64, rest: i64, score: i64, bit: i64)
-    requires { k ≤ most_rules }
-    ensures { plan.new ≡ with_row plan.old k limit rest score bit }
+// The plan of a policy, with its rules in falling rank. That the threshold is in range is a clause here and above, since a number
+// has no type that says it.
+pub fn planned(policy: &book::Policy, threshold: i32) -> Plan
+    requires { ThresholdFits threshold }
+    ensures { PlanFor result (in_rank_order policy.now) threshold }
 {
-    let row = k * ROW;
-    plan[row] = limit;
-    plan[row + REST] = rest;
-    plan[row + SCORE] = score;
-    plan[row + BIT] = bit;
-}
-
-// The plan of policy k, with its rules in falling rank.
-pub fn planned(cells: &book::Cells, k: usize, threshold: i32) -> Plan
-    requires { PolicyKept cells.now k × ThresholdFits threshold }
-    ensures { PlanKept cells.now k threshold result }
-{
-    let policy = ranking::in_rank_order(book::policy_at(cells, k));
-    let operator = policy.operator;
-    let count = policy.count;
-    let mut limit = first_limit(operator, threshold);
-    let mut rest = initial(operator);
-    let mut plan = [0i64; PLAN_CELLS];
-    // Of no rules there is no first: its cells stay 0.
-    put_row(&mut plan, 0, limit, rest, 0, 0);
-    let mut rules = 0;
-    while rules < count {
-        rules += 1;
-        let i = count - rules;
-        let signal = policy.signals[i];
-        let score = policy.scores[i] as i64;
-        let bit = signals::bit(signal) as i64;
-        limit = next_limit(operator, limit);
-        rest = peal::combined(operator, score, rest);
-        put_row(&mut plan, rules, limit, rest, score, bit);
+    let operator = policy.operator();
+    let count = policy.rules().len();
+    let rules = ranking::in_rank_order(policy);
+    // Of no rules there is no first: its score and its bit are 0.
+    let mut row = Row {
+        limit: first_limit(operator, threshold),
+        rest: initial(operator),
+        score: 0,
+        bit: 0,
+    };
+    let mut rows = ArrayVec::new();
+    rows.push(row);
+    for i in (0..count).rev() {
+        let rule = rules[i];
+        let score = rule.score as i64;
+        row = Row {
+            limit: next_limit(operator, row.limit),
+            rest: peal::combined(operator, score, row.rest),
+            score,
+            bit: signals::bit(rule.signal),
+        };
+        rows.push(row);
     }
-    plan
+    Plan { operator, rows }
 }

@@ -1,4 +1,5 @@
 pub mod Refusals
+pub mod Returned
 pub mod BookRefusals
 pub mod ListingRefusals
 pub mod Results

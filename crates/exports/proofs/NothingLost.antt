@@ -2,12 +2,13 @@
 use Prim.Native.Nat.{ℕ, ◌+◌, ◌-◌, ◌*◌, ◌/◌, ◌%◌, ◌≤◌, ◌<◌}
 use mathlib.Core.Bool.{Bool, true, false, cond}
 use mathlib.Core.List.{List}
-use mathlib.Core.Path.{◌≡◌, refl, sym, ap, subst, ◌∙◌}
+use mathlib.Core.Path.{◌≡◌, refl, ap, subst, ◌∙◌}
 use native.Mathlib.Omega.{arith}
 use lib.Dec.{eqb}
-use lib.IntN.{ℤ, pos, nat_abs, ◌+ℤ◌, ◌-ℤ◌, +ℤ-neg_ℤ_cancel}
+use lib.IntN.{pos, nat_abs, ◌+ℤ◌, ◌-ℤ◌}
 use lib.ListN.{length}
 use borrow.Author.Tests.{le-leb, lt-leb, ne_eqb}
+use Rattle.std.proofs.lemmas.Int.{ints}
 use Rattle.answers.specs.Answers.{Answer, result, refused}
 use Rattle.layout.specs.Records.{one_if}
 use Rattle.rod.specs.Reading.{rod_answer}
@@ -24,7 +25,7 @@ use Rattle.exports.specs.NothingLost.{NothingLost}
 use Rattle.exports.proofs.Refusals.{Refuses, in_table}
 use Rattle.exports.proofs.BookRefusals.{checking, deciding, scoring, compiling}
 use Rattle.exports.proofs.ListingRefusals.{rod-reading, traversing, choosing, Declines, comparing}
-use Rattle.exports.proofs.Results.{counts-small, hundredths-natural, answers-counted, NamesSets, ChosenFits, chosen-fits}
+use Rattle.exports.proofs.Results.{counts-small, hundredths-bounded, answers-counted, NamesSets, ChosenFits, chosen-fits}
 
 -- ---- the parts of a number
 
@@ -84,9 +85,7 @@ score-again : (bytes : List ℕ) (number set lent : ℕ) (x : Exact) → result 
     → score_in (remainder_after lent (shown_answer bytes number set)) (score_value x) ≡ x
 unfolding score_in score_value remainder_after
 score-again bytes number set lent x e =
-    let (n, counted, few) = hundredths-natural bytes number set x (sym e) in
-    let back : pos (nat_abs (x.hundredths +ℤ below_zero)) -ℤ below_zero ≡ x.hundredths =
-    ap (λ (z : ℤ). pos (nat_abs z) -ℤ below_zero) counted ∙ ap (λ (z : ℤ). z -ℤ below_zero) (sym counted) ∙ +ℤ-neg_ℤ_cancel x.hundredths (below_zero) in
+    let back : pos (nat_abs (x.hundredths +ℤ below_zero)) -ℤ below_zero ≡ x.hundredths = omega (arith, ints, hundredths-bounded bytes number set x e) in
     subst (λ (a : Answer Exact). score_in (remainder_after lent a) (score_value x) ≡ x) e (rw back refl)
 
 -- as many answers as sets, fewer than 2 to the 59

@@ -1,32 +1,29 @@
 -- How large results are.
-use Prim.Native.Nat.{ℕ, suc, ◌+◌, ◌-◌, ◌≤◌, ◌<◌}
+use Prim.Native.Nat.{ℕ, ◌≤◌, ◌<◌}
 use mathlib.Core.Bool.{true, false, ◌&&◌}
 use mathlib.Core.List.{List}
 use mathlib.Core.Option.{Option, none, some}
-use mathlib.Core.Path.{◌≡◌, refl, sym, ap, subst, ◌∙◌}
+use mathlib.Core.Path.{◌≡◌, sym, ap, subst, ◌∙◌}
 use native.Mathlib.Omega.{arith}
-use lib.Dec.{leb}
-use lib.IntN.{ℤ, pos, negsuc, ◌+ℤ◌}
+use lib.IntN.{pos, negsuc}
 use lib.ListN.{length}
-use lib.Signed.{le_z}
-use borrow.Author.Tests.{leb-true, le-ltb}
+use lib.Signed.{le_z, ◌≤ℤ◌}
+use Rattle.std.proofs.lemmas.Int.{ints}
 use Rattle.answers.specs.Answers.{result}
 use Rattle.answers.proofs.Results.{result-is, gone-on}
 use Rattle.arith.proofs.Counts.{count-le, count-some}
-use Rattle.arith.proofs.Tests.{and_left, and_right}
 use Rattle.layout.specs.Judgement.{verdict}
 use Rattle.rod.specs.Traversing.{traversed, answer_count}
 use Rattle.rod.proofs.Traverses.{as_many, answers-given}
 use Rattle.checks.specs.Checks.{permitted, gives, Choice, always, never, both, choice_of, choice, judged_end, judged_sets, Chosen, chosen}
 use Rattle.checks.proofs.Pairs.{permitted-zero}
 use Rattle.checks.proofs.Search.{LowestIs, lowest-is}
-use Rattle.book.specs.Acceptance.{within}
+use Rattle.limits.specs.Limits.{within}
 use Rattle.book.specs.Books.{read, Counts, checked}
 use Rattle.book.proofs.BoundedLaws.{read-in-range}
 use Rattle.score.specs.Shown.{shown_answer}
 use Rattle.score.specs.declared.exact.Exact.{Exact}
 use Rattle.score.proofs.ShownTells.{shown-tells}
-use Rattle.exports.specs.Packing.{below_zero}
 
 pub counts-small : (bytes : List ℕ) (n : Counts) → result n ≡ checked bytes → (n.policies ≤ 16) × (n.conditions ≤ 8)
 unfolding checked
@@ -35,18 +32,15 @@ counts-small bytes n h =
     let range = read-in-range bytes b r in
     omega (arith, range.policies_room, range.conditions_room, ap (λ (c : Counts). c.policies) (result-is e), ap (λ (c : Counts). c.conditions) (result-is e))
 
--- ---- hundredths, counted from the lowest
+-- ---- a score
 
-pub hundredths-natural : (bytes : List ℕ) (number set : ℕ) (x : Exact) → shown_answer bytes number set ≡ result x
-    → (n : ℕ) × (x.hundredths +ℤ below_zero ≡ pos n) × (n ≤ 170000)
+-- the hundredths, from the lowest to the highest
+pub hundredths-bounded : (bytes : List ℕ) (number set : ℕ) (x : Exact) → result x ≡ shown_answer bytes number set
+    → (negsuc 9999 ≤ℤ x.hundredths) × (x.hundredths ≤ℤ pos 160000)
 unfolding within
-hundredths-natural bytes number set x h = go x.hundredths (shown-tells.range bytes number set x h)
-  where
-    go : (z : ℤ) → (le_z (negsuc 9999) z && le_z z (pos 160000)) ≡ true → (n : ℕ) × (z +ℤ below_zero ≡ pos n) × (n ≤ 170000)
-    go (pos z) e = (z + 10000, refl, omega (arith, leb-true z 160000 (and_right true (leb z 160000) e)))
-    go (negsuc z) e =
-        let l = leb-true z 9999 (and_left (leb z 9999) true e) in
-        (10000 - suc z, rw (le-ltb 10000 (suc z) (omega arith)), omega arith)
+hundredths-bounded bytes number set x h =
+    let range : (le_z (negsuc 9999) x.hundredths && le_z x.hundredths (pos 160000)) ≡ true = shown-tells.range bytes number set x (sym h) in
+    (grind (arith, ints), grind (arith, ints))
 
 -- ---- a traverse
 

@@ -1,18 +1,20 @@
 // The calls for programs in C or Rust, which link this code by the crate `exports_c`; include/cerahupo.h is their header.
-// Each takes every input, and returns its answer as one number. Only compiling writes the lent words, only the score's
-// call the lent number, and only a traverse the lent answers.
+// Each takes every input, and returns its answer as one number, since that is the C interface. Only compiling writes the
+// lent words, only the score's call the lent number, and only a traverse the lent answers.
 #![tactic(auto)]
 
-ghost use Rattle.std.specs.Prelude.{◌≡◌, ◌+◌, ◌-◌, ◌*◌, ◌^◌, ◌≤◌, ◌<◌};
+ghost use Rattle.std.specs.Prelude.{◌≡◌, ◌<◌, MatchResult, IfErr};
 ghost use Rattle.layout.specs.Records.{one_if};
-ghost use Rattle.layout.specs.Meaning.{fault_number, fault_value};
 ghost use Rattle.rod.specs.Reading.{rod_answer};
 ghost use Rattle.checks.specs.Checks.{chosen, comparison};
+ghost use Rattle.checks.specs.Meaning.{outcome_meaning};
 ghost use Rattle.book.specs.Books.{checked};
-ghost use Rattle.book.specs.Meaning.{reason_number, declined_number, declined_value};
 ghost use Rattle.score.specs.Decisions.{scored_answer};
-ghost use Rattle.exports.specs.Packing.{from_bit5, from_bit16, from_bit32, from_bit48, value_end, as_one, packed};
-ghost use Rattle.exports.specs.Packing.{counts_value, ScoreTold, CompilingTold, TraverseTold, chosen_value, packed_comparison};
+ghost use Rattle.exports.specs.Packing.{from_bit48, value_end, as_one, packed, counts_value, ScoreTold, CompilingTold};
+ghost use Rattle.exports.specs.Packing.{TraverseTold, choice_value, chosen_value, packed_comparison};
+
+use answers::Refusal;
+use checks::{Comparison, Outcome, Which};
 
 // The weight of a value in the number: it begins at bit 5, after the code.
 const FROM_BIT_5: u64 = 1 << 5;
@@ -44,175 +46,113 @@ fn accepted(value: u64) -> u64
 }
 
 // A refusal by its number, and the line or record beside it.
-fn refused(number: u64, value: u64) -> u64
-    requires { (number < from_bit5) × (value < value_end) }
-    ensures { result ≡ as_one number value }
+fn refusal<E: Refusal + Copy>(error: E) -> u64
+    requires { E.value_of error < value_end }
+    ensures { result ≡ as_one (E.number_of error) (E.value_of error) }
 {
-    number + FROM_BIT_5 * value
+    error.number() + FROM_BIT_5 * error.value()
 }
 
-fn refused_book(refusal: book::Refusal) -> u64
-    requires { refusal.line < value_end }
-    ensures { result ≡ as_one (reason_number refusal.reason) refusal.line }
+// A yes or no: 1 for yes.
+fn told<E: Refusal + Copy>(answer: Result<bool, E>) -> u64
+    requires { IfErr answer (λ error. E.value_of error < value_end) }
+    ensures { MatchResult answer (λ yes. result ≡ as_one 0 (one_if yes))
+        (λ error. result ≡ as_one (E.number_of error) (E.value_of error)) }
 {
-    let reason = refusal.reason;
-    let line = refusal.line as u64;
-    refused(book::reason_number(reason), line)
-}
-
-fn declined(why: book::Declined) -> u64
-    requires { declined_value why < value_end }
-    ensures { result ≡ as_one (declined_number why) (declined_value why) }
-{
-    match why {
-        book::Declined::Refused(refusal) => refused_book(refusal),
-        book::Declined::NoCondition => refused(book::NO_CONDITION, 0),
-    }
-}
-
-fn refused_listing(fault: layout::Fault) -> u64
-    requires { fault_value fault < value_end }
-    ensures { result ≡ as_one (fault_number fault) (fault_value fault) }
-{
-    match fault {
-        layout::Fault::Length => refused(layout::BAD_LENGTH, 0),
-        layout::Fault::Record(n) => {
-            let record = n as u64;
-            refused(layout::BAD_RECORD, record)
-        }
+    match answer {
+        Ok(yes) => accepted(yes as u64),
+        Err(error) => refusal(error),
     }
 }
 
 pub fn cerahupo_check(bytes: &[u8]) -> u64
     ensures { result ≡ packed counts_value (checked bytes.now) }
 {
-    let answer = book::check(bytes);
-    match answer {
-        book::Checked::Accepted {
-            policies,
-            conditions,
-        } => {
-            let value = policies as u64 + FROM_BIT_16 * conditions as u64;
-            accepted(value)
-        }
-        book::Checked::Refused(refusal) => refused_book(refusal),
+    match book::check(bytes) {
+        Ok(counts) => accepted(counts.policies as u64 + FROM_BIT_16 * counts.conditions as u64),
+        Err(error) => refusal(error),
     }
 }
 
 pub fn cerahupo_decide(bytes: &[u8], condition: u32, set: u16) -> u64
     ensures { result ≡ packed one_if (scored_answer bytes.now condition set) }
 {
-    let answer = score::decide(bytes, condition, set);
-    match answer {
-        score::Decision::Yes => accepted(1),
-        score::Decision::No => accepted(0),
-        score::Decision::Declined(why) => declined(why),
-    }
+    told(score::decide(bytes, condition, set))
 }
 
 pub fn cerahupo_score(bytes: &[u8], condition: u32, set: u16, remainder: &mut u64) -> u64
     ensures { ScoreTold bytes.now condition set remainder.old result remainder.new }
 {
-    let answer = score::evaluate(bytes, condition, set);
-    match answer {
-        score::Evaluation::Score(exact) => {
-            let value = (exact.hundredths + BELOW_ZERO) as u64;
+    match score::evaluate(bytes, condition, set) {
+        Ok(exact) => {
             *remainder = exact.remainder;
-            accepted(value)
+            accepted((exact.hundredths + BELOW_ZERO) as u64)
         }
-        score::Evaluation::Declined(why) => declined(why),
+        Err(error) => refusal(error),
     }
 }
 
 pub fn cerahupo_compile(bytes: &[u8], condition: u32, words: &mut [u32]) -> u64
     ensures { CompilingTold bytes.now condition words.old result words.new }
 {
-    let answer = compiler::compile(bytes, condition, words);
-    match answer {
-        compiler::Compiled::Records(n) => {
-            let records = n as u64;
-            accepted(records)
-        }
-        compiler::Compiled::Declined(why) => declined(why),
-        compiler::Compiled::NoRoom => refused(compiler::NO_ROOM, 0),
+    match compiler::compile(bytes, condition, words) {
+        Ok(records) => accepted(records as u64),
+        Err(error) => refusal(error),
     }
 }
 
 pub fn cerahupo_read(words: &[u32], set: u16) -> u64
     ensures { result ≡ packed one_if (rod_answer words.now set) }
 {
-    let answer = rod::decide(words, set);
-    match answer {
-        rod::Decision::Yes => accepted(1),
-        rod::Decision::No => accepted(0),
-        rod::Decision::Declined(fault) => refused_listing(fault),
-    }
+    told(rod::decide(words, set))
 }
 
 pub fn cerahupo_traverse(words: &[u32], sets: &[u16], answers: &mut [u8]) -> u64
     ensures { TraverseTold words.now sets.now answers.old
         result answers.new }
 {
-    let answer = rod::traverse(words, sets, answers);
-    match answer {
-        rod::Traversed::Answered(n) => {
-            let value = n as u64 % VALUE_END;
-            accepted(value)
-        }
-        rod::Traversed::Unequal => refused(rod::UNEQUAL, 0),
-        rod::Traversed::Declined(fault) => refused_listing(fault),
+    match rod::traverse(words, sets, answers) {
+        Ok(count) => accepted(count as u64 % VALUE_END),
+        Err(error) => refusal(error),
     }
 }
 
-// A choice by its value below bit 48, and how many sets were judged.
-fn accepted_choice(value: u64, judged: u32) -> u64
-    requires { (value < from_bit48) × (0 < judged) × (judged ≤ 2 ^ 16) }
-    ensures { result ≡ as_one 0 (value + from_bit48 * (judged - 1)) }
+// A choice by its value: both, by the lowest set that gives yes and the lowest that gives no.
+fn choice_value(choice: Outcome) -> u64
+    ensures value { result ≡ choice_value (outcome_meaning choice) }
+    ensures end { result < from_bit48 }
 {
-    accepted(value + FROM_BIT_48 * (judged - 1) as u64)
-}
-
-// Both, by the lowest set that gives yes and the lowest that gives no.
-fn accepted_both(yes: u16, no: u16, judged: u32) -> u64
-    requires { (0 < judged) × (judged ≤ 2 ^ 16) }
-    ensures { result ≡ as_one 0 (2 + from_bit16 * yes + from_bit32 * no + from_bit48 * (judged - 1)) }
-{
-    let value = 2 + FROM_BIT_16 * yes as u64 + FROM_BIT_32 * no as u64;
-    accepted_choice(value, judged)
+    match choice {
+        Outcome::Always => 0,
+        Outcome::Never => 1,
+        Outcome::Both { yes, no } => 2 + FROM_BIT_16 * yes as u64 + FROM_BIT_32 * no as u64,
+    }
 }
 
 pub fn cerahupo_choice(words: &[u32]) -> u64
     ensures { result ≡ packed chosen_value (chosen words.now) }
 {
-    let answer = checks::choice(words);
-    match answer {
-        checks::ChoiceAnswer::Always(judged) => accepted_choice(0, judged),
-        checks::ChoiceAnswer::Never(judged) => accepted_choice(1, judged),
-        checks::ChoiceAnswer::Both(yes, no, judged) => accepted_both(yes, no, judged),
-        checks::ChoiceAnswer::Declined(fault) => refused_listing(fault),
+    match checks::choice(words) {
+        Ok(chosen) => {
+            let value = choice_value(chosen.choice);
+            accepted(value + FROM_BIT_48 * (chosen.judged - 1) as u64)
+        }
+        Err(error) => refusal(error),
     }
-}
-
-// A difference: 3 where the first listing says yes, 1 where the second does, and the lowest set where they differ.
-fn accepted_difference(which: u64, set: u16) -> u64
-    requires { which < from_bit16 }
-    ensures { result ≡ as_one 0 (which + from_bit16 * set) }
-{
-    accepted(which + FROM_BIT_16 * set as u64)
 }
 
 pub fn cerahupo_compare(one: &[u32], two: &[u32]) -> u64
     ensures { result ≡ packed_comparison (comparison one.now two.now) }
 {
-    let answer = checks::compare(one, two);
-    match answer {
-        checks::ComparisonAnswer::Alike => accepted(0),
-        checks::ComparisonAnswer::FirstYes(set) => accepted_difference(3, set),
-        checks::ComparisonAnswer::SecondYes(set) => accepted_difference(1, set),
-        checks::ComparisonAnswer::FirstDeclined(fault) => refused_listing(fault),
-        checks::ComparisonAnswer::SecondDeclined(fault) => {
-            let packed = refused_listing(fault);
-            packed + OF_SECOND
-        }
+    match checks::compare(one, two) {
+        Ok(Comparison::Alike) => accepted(0),
+        Ok(Comparison::Differ { set, yes }) => match yes {
+            Which::First => accepted(3 + FROM_BIT_16 * set as u64),
+            Which::Second => accepted(1 + FROM_BIT_16 * set as u64),
+        },
+        Err(error) => match error.listing {
+            Which::First => refusal(error),
+            Which::Second => refusal(error) + OF_SECOND,
+        },
     }
 }

@@ -2,7 +2,7 @@
 use Prim.Native.Nat.{ℕ, zero, suc, ◌+◌, ◌-◌, ◌*◌, ◌/◌, ◌%◌, ◌≤◌, ◌<◌}
 use mathlib.Core.Bool.{Bool, ◌||◌, or_assoc, or-false}
 use mathlib.Core.List.{List, ◌∷◌, ◌++◌}
-use mathlib.Core.Path.{◌≡◌, refl, sym, ap, ap₂, subst, ◌∙◌}
+use mathlib.Core.Path.{◌≡◌, sym, ap, ap₂, subst, ◌∙◌}
 use native.Mathlib.Nat.{add-zero, zero-add, suc-add}
 use native.Mathlib.Omega.{arith}
 use lib.ListN.{length, get_or}
@@ -62,9 +62,6 @@ pub record Gathering (ws : List ℕ) (from end group : ℕ) (table left : List �
   pub same : (x : ℕ) → x < 1024
       → (tells left x || exists (mask_reaches 0 group x) (masks_from ws i (end - i))) ≡ (tells table x || exists (mask_reaches 0 group x) (masks_from ws from (end - from)))
 
-pub gathered_none : (ws : List ℕ) (from end group : ℕ) (table : List ℕ) → length table ≡ 16 → MasksAt ws from end → Gathering ws from end group table table from
-gathered_none ws from end group table room m = record { more = m; room = room; same = λ x h. refl }
-
 -- a record is left
 module _ {ws : List ℕ} {end i : ℕ} (m : MasksAt ws i end) (some : i < end) where
   first-mask : masks_from ws i (end - i) ≡ mask_at ws i ∷ masks_from ws (i + 1) (end - (i + 1))
@@ -73,9 +70,6 @@ module _ {ws : List ℕ} {end i : ℕ} (m : MasksAt ws i end) (some : i < end) w
     where
       one_more : end - i ≡ suc (end - (i + 1))
       one_more = omega arith
-
-  pub mask-within : i < length ws / 4
-  mask-within = omega (arith, m.within)
 
   pub mask-set : mask_at ws i ≤ 65535
   mask-set = (subst AllSets first-mask m.sets).0

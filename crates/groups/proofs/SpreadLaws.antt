@@ -29,12 +29,6 @@ use Rattle.groups.proofs.ReachLaws.{mask-more, mask-inside}
 abbrev pub LowWord : ℕ → List ℕ → ℕ → ℕ → Type 0
 LowWord s table k word = WordOf (λ j. present (get_or table k 0) j || present (get_or table k 0) (without s j)) word
 
--- the next word, from what is in the table by now
-pub low_word : (s n : ℕ) (table left : List ℕ) → Written (λ k. k) (LowWord s table) n table left → (word : ℕ)
-    → WordOf (λ j. present (get_or left n 0) j || present (get_or left n 0) (without s j)) word → LowWord s table n word
-low_word s n table left w word t j h =
-    t j h ∙ ap (λ (x : ℕ). present x j || present x (without s j)) (w.others n (λ k l e. omega arith))
-
 pub low-spread : (s : ℕ) (table left : List ℕ) → s < 6 → length table ≡ 16 → Written (λ k. k) (LowWord s table) 16 table left → Spread s table left
 unfolding tells
 low-spread s table left small room w =

@@ -1,17 +1,19 @@
 -- Words bit by bit: a policy's, a join's, and an overlap that is the same in every block.
 use Prim.Native.Nat.{ℕ, ◌+◌, ◌-◌, ◌*◌, ◌/◌, ◌%◌, ◌^◌, ◌≤◌, ◌<◌}
 use mathlib.Core.Bool.{Bool, true, false, not, cond, ◌&&◌, ◌||◌, beq, and-false}
-use mathlib.Core.List.{List}
+use mathlib.Core.List.{List, []}
 use mathlib.Core.Logic.{⊎_elim}
-use mathlib.Core.Path.{◌≡◌, refl, sym, ap, ap₂, ◌∙◌}
+use mathlib.Core.Path.{◌≡◌, refl, sym, ap, ap₂, subst, ◌∙◌}
 use native.Mathlib.Nat.{add-zero}
 use native.Mathlib.Omega.{arith}
 use lib.Bits.{bit_and, bit_or, bit_xor, and_block, and_zero_l, and_zero_r}
 use lib.Bits as bits
 use lib.Dec.{eqb}
-use lib.ListN.{get_or}
-use borrow.Author.Tests.{eqb-true, eq-eqb, ne_eqb}
+use lib.ListN.{length, get_or, replicate, get_or-replicate, set, length-set}
+use lib.Seq.{get_or-set_same, get_or-set_other}
+use borrow.Author.Tests.{eqb-true, eqb-false, eq-eqb, ne_eqb}
 use Rattle.arith.specs.Tables.{Written}
+use Rattle.arith.proofs.Tables.{written-more, written_all}
 use Rattle.arith.proofs.Digits.{digits}
 use Rattle.arith.proofs.Tests.{clash, or_cases}
 use Rattle.signals.specs.Sets.{present, overlap}
@@ -24,7 +26,7 @@ use Rattle.layout.specs.Nodes.{ListedPolicy}
 use Rattle.rod.specs.Reading.{some_line, policy_value, joined}
 use Rattle.rod.specs.Values.{join_meaning}
 use Rattle.groups.specs.Groups.{group_set, GroupOf}
-use Rattle.groups.specs.Values.{value_word, value_bit, policy_bit, BlockWord, PolicyWord, JoinedWord}
+use Rattle.groups.specs.Values.{SixteenTables, value_word, policy_bit, PolicyWord, WordsPut, JoinedWord, JoinPut}
 
 -- a policy's word, by the code's `^`, `&`, `|` and `!`
 pub policy-bits : (shared found turn still : ℕ) → shared < 2 ^ 64
@@ -45,6 +47,10 @@ policy-bits shared found turn still small j h =
     go false false true = refl
     go false false false = refl
 
+-- tables of zeros
+pub no-values : SixteenTables (replicate 16 (replicate 16 0))
+no-values = record { room = refl; tables = λ n h. ap length (get_or-replicate 16 n (replicate 16 0) [] h) }
+
 -- two words joined
 module _ (a b : ℕ) (o : Bool) where
   pub words-or : o ≡ true → WordOf (λ j. joined (join_meaning o) (present a j) (present b j)) (bit_or a b)
@@ -55,22 +61,50 @@ module _ (a b : ℕ) (o : Bool) where
   unfolding joined
   words-and e j h = rw e (present-and a b j)
 
--- from two words that are in the table by now, where the joined ones before them stand
-pub joined-here : (o : Join) (values : List ℕ) (height n : ℕ) (left : List ℕ) → Written (value_word height) (JoinedWord o height values) n values left → (word : ℕ)
-    → WordOf (λ j. joined o (present (get_or left (value_word height n) 0) j) (present (get_or left (height * 16 + 16 + n) 0) j)) word → JoinedWord o height values n word
-joined-here o values height n left w word t j h =
-    t j h
-    ∙ ap₂ (λ (x y : ℕ). joined o (present x j) (present y j)) (w.others (value_word height n) (λ k l e. omega arith))
-    (w.others (height * 16 + 16 + n) (λ k l e. omega arith) ∙ ap (λ (i : ℕ). get_or values i 0) next)
-  where
-    next : height * 16 + 16 + n ≡ value_word (height + 1) n
-    next = omega arith
+-- of two values the words before this one are joined, where the first has stood
+pub record Joining (o : Join) (height : ℕ) (values left : List (List ℕ)) (n : ℕ) : Type 0 where
+  pub room : length left ≡ length values
+  pub words : Written (λ k. k) (JoinedWord o height values) n (get_or values height []) (get_or left height [])
+  pub others : (m : ℕ) → (m ≡ height → ⊥) → get_or left m [] ≡ get_or values m []
 
--- by the word of an overlap
-pub block-told : (mask group : ℕ) (found : List ℕ) (turn still k shared word : ℕ) → BlockOf (overlap mask) (16 * group + k) shared
-    → WordOf (policy_bit shared (get_or found k 0) turn still) word → BlockWord mask group found turn still k word
-block-told mask group found turn still k shared word o w j h =
-    w j h ∙ ap (λ (s : Bool). value_bit s (get_or found k 0) turn still j) (o j h)
+module _ (o : Join) (height : ℕ) (values : List (List ℕ)) where
+  module _ (left : List (List ℕ)) (n : ℕ) (t : SixteenTables values) (h : height + 1 < 16) (g : Joining o height values left n) where
+    pub joining-more : n < 16 → (next : ℕ) → next ≡ height + 1 → (word : ℕ)
+        → WordOf (λ j. joined o (present (value_word left height n) j) (present (value_word left next n) j)) word
+        → Joining o height values (set left height (set (get_or left height []) n word)) (n + 1)
+    joining-more b next e word w =
+        record {
+          room = length-set left height table ∙ g.room;
+          words = subst (Written (λ k. k) (JoinedWord o height values) (n + 1) (get_or values height [])) (sym here)
+              (written-more _ _ _ n _ g.words (omega (arith, t.tables height (omega arith))) (λ k l d. omega arith) word told);
+          others = λ m d. get_or-set_other left height m table [] d ∙ g.others m d;
+        }
+      where
+        table : List ℕ
+        table = set (get_or left height []) n word
+
+        here : get_or (set left height table) height [] ≡ table
+        here = get_or-set_same left height table [] (omega (arith, g.room, t.room))
+
+        second : get_or left next [] ≡ get_or values (height + 1) []
+        second = g.others next (λ d. omega arith) ∙ ap (λ (m : ℕ). get_or values m []) e
+
+        told : JoinedWord o height values n word
+        told j l =
+            w j l
+            ∙ ap₂ (λ (x : ℕ) (xs : List ℕ). joined o (present x j) (present (get_or xs n 0) j)) (g.words.others n (λ k l e. omega arith)) second
+
+    pub joining-all : n ≡ 16 → JoinPut o height values left
+    joining-all e =
+        let whole = written_all _ _ _ 16 n _ e g.words in
+        record { room = record { room = g.room ∙ t.room; tables = each }; told = whole.told; others = g.others }
+      where
+        each : (m : ℕ) → m < 16 → length (get_or left m []) ≡ 16
+        each m b = go (eqb m height) refl
+          where
+            go : (t : Bool) → eqb m height ≡ t → length (get_or left m []) ≡ 16
+            go true q = rw (eqb-true m height q) (g.words.room ∙ t.tables height (omega arith))
+            go false q = rw (g.others m (eqb-false m height q)) (t.tables m b)
 
 -- ---- what a policy says
 
@@ -88,18 +122,17 @@ turned_bit false false = refl
 -- from where some of its lines lies inside, and all sets or none for its flags
 module _ (p : ListedPolicy) (group : ℕ) (found : List ℕ) (turn still : ℕ) (f : GroupOf (some_line p.lines) group found)
     (t : WordOf (λ j. p.turned) turn) (q : WordOf (λ j. p.quiet) still) where
-  pub blocks-told : (k : ℕ) → k < 16 → (word : ℕ) → BlockWord p.mask group found turn still k word → PolicyWord p group k word
+  pub policy-told : (Overlap : ℕ → ℕ → Type 0) (table : List ℕ) → ((k : ℕ) → k < 16 → (shared : ℕ) → Overlap k shared → BlockOf (overlap p.mask) (16 * group + k) shared)
+      → WordsPut Overlap found turn still table → (k : ℕ) → k < 16 → PolicyWord p group k (get_or table k 0)
   unfolding policy_value
-  blocks-told k b word w j h =
-      w j h ∙ rw (f k b j h, t j h, q j h)
+  policy-told Overlap table o w k b j h =
+      let at = w.told k b in
+      at.2 j h ∙ rw (o k b at.0 at.1 j h, f k b j h, t j h, q j h)
       (ap (λ (v : Bool). cond (overlap p.mask (group_set group k j)) v p.quiet) (turned_bit (some_line p.lines (group_set group k j)) p.turned))
 
-  -- by one word of its overlap
-  pub even-told : (shared : ℕ) → BlockOf (overlap p.mask) (16 * group) shared → EvenOverlap p.mask group
-      → (k : ℕ) → k < 16 → (word : ℕ) → WordOf (policy_bit shared (get_or found k 0) turn still) word → PolicyWord p group k word
-  even-told shared o e k b word w =
-      blocks-told k b word
-      (λ j h. w j h ∙ ap (λ (s : Bool). value_bit s (get_or found k 0) turn still j) (o j h ∙ sym (e k b j h)))
+-- the word of an overlap that is the same in every block is each block's
+pub even-block : (mask group shared : ℕ) → EvenOverlap mask group → BlockOf (overlap mask) (16 * group) shared → (k : ℕ) → k < 16 → BlockOf (overlap mask) (16 * group + k) shared
+even-block mask group shared e o k b j h = o j h ∙ sym (e k b j h)
 
 -- ---- an overlap that is the same in every block
 

@@ -37,8 +37,7 @@ pub record MasksAt (ws : List ℕ) (from end : ℕ) : Type 0 where
   pub sets : AllSets (masks_from ws from (end - from))
 
 -- the masks of the records from one index up to another can be put into the table of a group
-pub record CanGather (ws : List ℕ) (from end group : ℕ) (table : List ℕ) : Type 0 where
-  pub room : IsTable table
+pub record CanGather (ws : List ℕ) (from end group : ℕ) : Type 0 where
   pub within : IsGroup group
   pub masks : MasksAt ws from end
 

@@ -1,47 +1,45 @@
 -- The values as the code keeps them, sixteen tables at most, and where it stands in a sound listing.
 use Rattle.std.specs.Prelude.{ℕ, zero, suc, ◌+◌, ◌*◌, ◌/◌, ◌≤◌, ◌<◌, Bool, false, not, cond, List, [], ◌∷◌, map, ◌≡◌, length, get_or}
 use Rattle.std.specs.Bool.{beq}
-use Rattle.arith.specs.Tables.{Written}
 use Rattle.arith.specs.Trees.{run}
-use Rattle.signals.specs.Sets.{present, overlap}
+use Rattle.signals.specs.Sets.{present}
 use Rattle.blocks.specs.Blocks.{WordOf, BlockOf}
 use Rattle.layout.specs.Records.{Join}
 use Rattle.layout.specs.Nodes.{ListedPolicy, nodes}
 use Rattle.layout.specs.Steps.{records_from}
 use Rattle.rod.specs.Reading.{policy_value, joined, says}
-use Rattle.groups.specs.Groups.{IsGroup, group_set, GroupOf}
+use Rattle.groups.specs.Groups.{IsGroup, IsTable, group_set, GroupOf}
 use Rattle.rod.specs.Values.{mask_at, LinesTo, listed_at, NodeAt}
 
--- the values are kept in sixteen tables, one after the other
-abbrev pub SixteenTables : List ℕ → Type 0
-SixteenTables values = length values ≡ 256
+-- the values are kept in sixteen tables
+pub record SixteenTables (values : List (List ℕ)) : Type 0 where
+  pub room : length values ≡ 16
+  pub tables : (n : ℕ) → n < 16 → IsTable (get_or values n [])
 
--- where word k of the value at a height stands
-abbrev pub value_word : ℕ → ℕ → ℕ
-value_word height k = height * 16 + k
-
--- there is room for a value at this height
-pub record ValueRoom (values : List ℕ) (height : ℕ) : Type 0 where
-  pub room : SixteenTables values
-  pub below : height < 16
+-- word k of the value at a height
+abbrev pub value_word : List (List ℕ) → ℕ → ℕ → ℕ
+value_word values height k = get_or (get_or values height []) k 0
 
 -- there are so many values, two at least
-pub record TwoValues (values : List ℕ) (height : ℕ) : Type 0 where
+pub record TwoValues (values : List (List ℕ)) (height : ℕ) : Type 0 where
   pub room : SixteenTables values
   pub least : 2 ≤ height
   pub most : height ≤ 16
+
+-- a value is put at this height: of each of its words something is told, and the other values are as they were
+pub record ValuePut (Told : ℕ → ℕ → Type 0) (height : ℕ) (values left : List (List ℕ)) : Type 0 where
+  pub room : SixteenTables left
+  pub told : (k : ℕ) → k < 16 → Told k (value_word left height k)
+  pub others : (n : ℕ) → (n ≡ height → ⊥) → get_or left n [] ≡ get_or values n []
 
 -- word k tells what a policy says of block k of the group
 abbrev pub PolicyWord : ListedPolicy → ℕ → ℕ → ℕ → Type 0
 PolicyWord p group k word = BlockOf (λ set. policy_value set p) (16 * group + k) word
 
--- the policy's value is put at this height
-abbrev pub PolicyPut : ListedPolicy → ℕ → ℕ → List ℕ → List ℕ → Type 0
-PolicyPut p group height values left = Written (value_word height) (PolicyWord p group) 16 values left
-
--- what the policy at an index says is put at this height
-abbrev pub Said : List ℕ → ℕ → Bool → Bool → ℕ → ℕ → List ℕ → List ℕ → Type 0
-Said ws at quiet turned group height values left = PolicyPut (listed_at ws at quiet turned) group height values left
+-- the table tells what the policy at an index says
+pub record Said (ws : List ℕ) (at : ℕ) (quiet turned : Bool) (group : ℕ) (table : List ℕ) : Type 0 where
+  pub room : IsTable table
+  pub told : (k : ℕ) → k < 16 → PolicyWord (listed_at ws at quiet turned) group k (get_or table k 0)
 
 -- bit j of a policy's word, where its mask overlaps the set or not
 abbrev pub value_bit : Bool → ℕ → ℕ → ℕ → ℕ → Bool
@@ -51,31 +49,22 @@ value_bit shared found turn still j = cond shared (not (beq (present found j) (p
 abbrev pub policy_bit : ℕ → ℕ → ℕ → ℕ → ℕ → Bool
 policy_bit shared found turn still j = value_bit (present shared j) found turn still j
 
--- a policy's value is put at this height, from one word of its overlap for all blocks
-abbrev pub EvenPut : ℕ → List ℕ → ℕ → ℕ → ℕ → List ℕ → List ℕ → Type 0
-EvenPut shared found turn still height values left =
-    Written (value_word height) (λ k word. WordOf (policy_bit shared (get_or found k 0) turn still) word) 16 values left
-
--- word k tells what a policy with this mask says of block k of the group
-abbrev pub BlockWord : ℕ → ℕ → List ℕ → ℕ → ℕ → ℕ → ℕ → Type 0
-BlockWord mask group found turn still k word =
-    WordOf (λ j. value_bit (overlap mask (group_set group k j)) (get_or found k 0) turn still j) word
-
--- such a policy's value is put at this height
-abbrev pub BlocksPut : ℕ → ℕ → List ℕ → ℕ → ℕ → ℕ → List ℕ → List ℕ → Type 0
-BlocksPut mask group found turn still height values left =
-    Written (value_word height) (BlockWord mask group found turn still) 16 values left
+-- a policy's words, each from a word of its block's overlap
+pub record WordsPut (Overlap : ℕ → ℕ → Type 0) (found : List ℕ) (turn still : ℕ) (table : List ℕ) : Type 0 where
+  pub room : IsTable table
+  pub told : (k : ℕ) → k < 16
+      → (shared : ℕ) × Overlap k shared × WordOf (policy_bit shared (get_or found k 0) turn still) (get_or table k 0)
 
 -- word k joins those of the value at this height and of the next
-abbrev pub JoinedWord : Join → ℕ → List ℕ → ℕ → ℕ → Type 0
+abbrev pub JoinedWord : Join → ℕ → List (List ℕ) → ℕ → ℕ → Type 0
 JoinedWord join height values k word =
-    let first = get_or values (value_word height k) 0 in
-    let second = get_or values (value_word (height + 1) k) 0 in
+    let first = value_word values height k in
+    let second = value_word values (height + 1) k in
     WordOf (λ j. joined join (present first j) (present second j)) word
 
 -- the value at this height and the next are joined
-abbrev pub JoinPut : Join → ℕ → List ℕ → List ℕ → Type 0
-JoinPut join height values left = Written (value_word height) (JoinedWord join height values) 16 values left
+abbrev pub JoinPut : Join → ℕ → List (List ℕ) → List (List ℕ) → Type 0
+JoinPut join height values left = ValuePut (JoinedWord join height values) height values left
 
 -- the record at this index has a signal set as mask, and so have its lines, which end before index `end`
 pub record PolicyHere (ws : List ℕ) (at end : ℕ) : Type 0 where
@@ -84,16 +73,16 @@ pub record PolicyHere (ws : List ℕ) (at end : ℕ) : Type 0 where
   pub lines : LinesTo ws (at + 1) end
 
 -- word k of each of the first `height` values, the last first
-unfoldable pub held_words : List ℕ → ℕ → ℕ → List ℕ
+unfoldable pub held_words : List (List ℕ) → ℕ → ℕ → List ℕ
 held_words values k zero = []
-held_words values k (suc height) = get_or values (value_word height k) 0 ∷ held_words values k height
+held_words values k (suc height) = value_word values height k ∷ held_words values k height
 
 -- what these words tell of set j of the block
 unfoldable pub column : ℕ → List ℕ → List Bool
 column j held = map (λ (word : ℕ). present word j) held
 
 -- at this index, with so many values, the nodes to come say of each set of the group what the whole listing says
-pub record GroupUnderway (ws : List ℕ) (group at : ℕ) (values : List ℕ) (height : ℕ) : Type 0 where
+pub record GroupUnderway (ws : List ℕ) (group at : ℕ) (values : List (List ℕ)) (height : ℕ) : Type 0 where
   pub within : IsGroup group
   pub room : SixteenTables values
   pub node : NodeAt ws at
@@ -106,6 +95,6 @@ pub record GroupUnderway (ws : List ℕ) (group at : ℕ) (values : List ℕ) (h
       get_or (run joined (policy_value set) (nodes (records_from ws at)) stack) 0 false ≡ says ws set
 
 -- the first table tells of each set of the group what the listing says
-pub record GroupRead (ws : List ℕ) (group : ℕ) (values : List ℕ) : Type 0 where
+pub record GroupRead (ws : List ℕ) (group : ℕ) (values : List (List ℕ)) : Type 0 where
   pub room : SixteenTables values
-  pub told : GroupOf (says ws) group values
+  pub told : GroupOf (says ws) group (get_or values 0 [])

@@ -1,16 +1,13 @@
 -- What is known of a record where its tests hold, and of the records where the judgement ends in sound.
 use Prim.Native.Nat.{ℕ, ◌+◌, ◌%◌, ◌≤◌}
-use mathlib.Core.Bool.{Bool, true, ◌&&◌, not, cond, false≢true}
+use mathlib.Core.Bool.{Bool, true, cond, false≢true}
 use mathlib.Core.List.{List, [], ◌∷◌}
 use mathlib.Core.Option.{none}
 use mathlib.Core.Path.{◌≡◌, refl}
 use native.Mathlib.Omega.{arith}
-use lib.Dec.{eqb, leb}
 use lib.ListN.{length}
-use borrow.Author.Tests.{eqb-true, leb-true}
 use Rattle.answers.specs.Answers.{result}
 use Rattle.answers.proofs.Results.{required}
-use Rattle.arith.proofs.Tests.{and_left, and_right}
 use Rattle.signals.specs.Sets.{is_set, is_pair}
 use Rattle.layout.specs.Records.{Record, records, Kind, policy, line, exclusion, kind_of, is_line, kinds, Join, unknown}
 use Rattle.layout.specs.Judgement.{if_any, if_line, next_node, SoFar, no_record, inside_policy, keeps_layout, so_far_after, judged, length_sound, verdict}
@@ -22,56 +19,22 @@ module _ (n : ℕ) (so : SoFar) (r : Record) (after : List Kind) where
   pub kept_line : keeps_layout n so line r after ≡ true
       → (inside_policy r.mask so.policy_mask ≡ true) × (r.lines ≡ 0) × (r.next ≡ if_line after (n + 1))
   unfolding keeps_layout
-  kept_line e =
-      let ab = and_left (inside_policy r.mask so.policy_mask && eqb r.lines 0) (eqb r.next (if_line after (n + 1))) e in (
-        and_left (inside_policy r.mask so.policy_mask) (eqb r.lines 0) ab,
-        eqb-true _ _ (and_right (inside_policy r.mask so.policy_mask) (eqb r.lines 0) ab),
-        eqb-true _ _ (and_right (inside_policy r.mask so.policy_mask && eqb r.lines 0) (eqb r.next (if_line after (n + 1))) e),
-      )
+  kept_line e = grind (arith, e)
 
   pub kept-policy : (q t : Bool) → keeps_layout n so (policy q t) r after ≡ true
       → (r.mask ≤ 65535) × (r.lines ≡ if_line after (n + 1)) × (r.next ≡ next_node (n + 1) after) × (so.policies + 1 ≤ 16)
   unfolding keeps_layout is_set
-  kept-policy q t e =
-      let a = leb r.mask 65535 in
-      let b = eqb r.lines (if_line after (n + 1)) in
-      let c = eqb r.next (next_node (n + 1) after) in
-      let abc = and_left (a && b && c) (leb (so.policies + 1) 16) e in
-      let ab = and_left (a && b) c abc in
-      (leb-true _ _ (and_left a b ab), eqb-true _ _ (and_right a b ab), eqb-true _ _ (and_right (a && b) c abc), leb-true _ _ (and_right (a && b && c) (leb (so.policies + 1) 16) e))
+  kept-policy q t e = grind (arith, e)
 
   pub kept-join : (j : Join) → keeps_layout n so (Kind.join j) r after ≡ true
       → (r.mask ≡ 0) × (r.lines ≡ 0) × (r.next ≡ if_any after (n + 1)) × (2 ≤ so.values)
   unfolding keeps_layout
-  kept-join j e =
-      let a = eqb r.mask 0 in
-      let b = eqb r.lines 0 in
-      let c = eqb r.next (if_any after (n + 1)) in
-      let abc = and_left (a && b && c) (leb 2 so.values) e in
-      let ab = and_left (a && b) c abc in
-      (eqb-true _ _ (and_left a b ab), eqb-true _ _ (and_right a b ab), eqb-true _ _ (and_right (a && b) c abc), leb-true _ _ (and_right (a && b && c) (leb 2 so.values) e))
+  kept-join j e = grind (arith, e)
 
   pub kept-exclusion : keeps_layout n so exclusion r after ≡ true
       → (so.policies ≡ 0) × (n ≤ 16) × (is_pair r.mask ≡ true) × (r.lines ≡ 0) × (r.next ≡ n + 1) × (1 ≤ length after)
   unfolding keeps_layout
-  kept-exclusion e =
-      let a = eqb so.policies 0 in
-      let b = leb n 16 in
-      let c = is_pair r.mask in
-      let d = eqb r.lines 0 in
-      let f = eqb r.next (n + 1) in
-      let g = leb 1 (length after) in
-      let abcdf = and_left (a && b && c && d && f) g e in
-      let abcd = and_left (a && b && c && d) f abcdf in
-      let abc = and_left (a && b && c) d abcd in
-      let ab = and_left (a && b) c abc in (
-        eqb-true _ _ (and_left a b ab),
-        leb-true _ _ (and_right a b ab),
-        and_right (a && b) c abc,
-        eqb-true _ _ (and_right (a && b && c) d abcd),
-        eqb-true _ _ (and_right (a && b && c && d) f abcdf),
-        leb-true _ _ (and_right (a && b && c && d && f) g e),
-      )
+  kept-exclusion e = grind (arith, e)
 
 -- where a record follows, it has a number
 pub some_after : (ks : List Kind) (k : ℕ) → 1 ≤ length ks → if_any ks k ≡ k
@@ -104,5 +67,4 @@ no-owner n so (r ∷ rest) o h = go (kind_of r.kind) (sound-step n so r rest h).
 pub sound-judged : (ws : List ℕ) → verdict ws ≡ result tt → (length ws % 4 ≡ 0) × (judged 0 no_record (records ws) ≡ result tt)
 unfolding verdict length_sound
 sound-judged ws h =
-    let s = required _ 9 0 _ tt h in
-    (eqb-true _ _ (and_right (not (eqb (length ws) 0)) (eqb (length ws % 4) 0) s.0), s.1)
+    let s = required (length_sound ws) 9 0 (judged 0 no_record (records ws)) tt h in (grind (arith, s.0), s.1)

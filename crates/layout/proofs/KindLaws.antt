@@ -1,12 +1,9 @@
 -- Kinds and their numbers.
-use Prim.Native.Nat.{ℕ, zero, suc, ◌+◌, ◌-◌, ◌*◌, ◌≤◌, ◌<◌}
-use mathlib.Core.Bool.{Bool, true, false, not, cond}
-use mathlib.Core.Path.{◌≡◌, refl, subst}
-use native.Mathlib.Omega.{arith}
-use lib.Bits.{bit_and}
+use Prim.Native.Nat.{ℕ}
+use mathlib.Core.Bool.{Bool, true, false, cond}
+use mathlib.Core.Path.{◌≡◌, refl}
 use lib.Dec.{eqb}
-use borrow.Author.Tests.{eqb-true, ne_eqb}
-use mir.Val.{bool_byte}
+use borrow.Author.Tests.{eqb-true}
 use Rattle.layout.specs.Records.{Join, and, or, Kind, policy, line, exclusion, unknown, one_if, line_kind, join_kind, exclusion_kind, policy_kind, kind_of}
 
 -- ---- what a number says of the kind
@@ -31,44 +28,7 @@ pub kind-exclusion : kind_of exclusion_kind ≡ exclusion
 unfolding kind_of line_kind join_kind policy_kind one_if exclusion_kind
 kind-exclusion = refl
 
--- a policy's flags are the two lowest bits of its number
-abbrev flagged : ℕ → Kind
-flagged k = policy (not (eqb (bit_and k 1) 0)) (not (eqb (bit_and k 2) 0))
-
-pub policy-number : (k : ℕ) → 16 ≤ k → k < 20 → flagged k ≡ kind_of k
-unfolding kind_of line_kind join_kind exclusion_kind policy_kind one_if
-policy-number k l h = let e : 16 + (k - 16) ≡ k = omega arith in subst (λ (n : ℕ). flagged n ≡ kind_of n) e (go (k - 16) (omega arith))
-  where
-    go : (m : ℕ) → m < 4 → flagged (16 + m) ≡ kind_of (16 + m)
-    go zero h = refl
-    go (suc zero) h = refl
-    go (suc (suc zero)) h = refl
-    go (suc (suc (suc zero))) h = refl
-    go (suc (suc (suc (suc m)))) h = absurd (omega arith)
-
-pub no_number : (k : ℕ) → (k ≡ 4 → ⊥) → (k ≡ 2 → ⊥) → (k ≡ 3 → ⊥) → (k ≡ 5 → ⊥) → (16 ≤ k → k < 20 → ⊥) → unknown ≡ kind_of k
-unfolding kind_of line_kind join_kind exclusion_kind policy_kind one_if
-no_number k l a o e p =
-    simp (
-      ne_eqb k 4 l,
-      ne_eqb k 2 a,
-      ne_eqb k 3 o,
-      ne_eqb k 5 e,
-      ne_eqb k 16 (λ s. p (omega arith) (omega arith)),
-      ne_eqb k 17 (λ s. p (omega arith) (omega arith)),
-      ne_eqb k 18 (λ s. p (omega arith) (omega arith)),
-      ne_eqb k 19 (λ s. p (omega arith) (omega arith)),
-    )
-
 -- ---- what a kind says of its number
-
--- a policy's number, from its flags as numbers
-pub kind-of-bytes : (quiet turned : Bool) → 16 + 1 * bool_byte quiet + 2 * bool_byte turned ≡ policy_kind quiet turned
-unfolding policy_kind one_if
-kind-of-bytes true true = refl
-kind-of-bytes true false = refl
-kind-of-bytes false true = refl
-kind-of-bytes false false = refl
 
 abbrev pub Numbered : Kind → ℕ → Type 0
 Numbered line k = k ≡ line_kind

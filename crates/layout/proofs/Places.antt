@@ -91,3 +91,6 @@ module _ (ws : List ℕ) (i n : ℕ) (h : length ws / 4 ≤ i) where
   pub next-end : 0 ≡ next_node n (kinds (records_from ws i))
   unfolding next_node kinds
   next-end = rw (from-nil ws i h) refl
+
+-- what the code finds at an index
+pub ruleset places = (line-there, line-not, line-end, any-there, any-end, next_here, next_past, next-end)

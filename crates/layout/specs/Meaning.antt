@@ -1,15 +1,19 @@
 -- What the answers of the code mean, by document 01's numbers.
-use Rattle.std.specs.Prelude.{ℕ}
+use Rattle.std.specs.Prelude.{ℕ, ◌<◌, Result, Ok, Err}
+use Rattle.std.proofs.Common.{lit<}
 use Rattle.answers.specs.Answers.{Answer, result, refused}
 use Rattle.layout.specs.declared.Fault.{Fault}
 use Rattle.layout.specs.declared.Fault.TheVariants.{Length, Record}
-use Rattle.layout.specs.declared.Verdict.{Verdict}
-use Rattle.layout.specs.declared.Verdict.TheVariants.{Sound, Declined}
 
 -- a fault's number in document 01's table
 abbrev pub fault_number : Fault → ℕ
 fault_number Length = 9
 fault_number (Record n) = 10
+
+-- which has room in a call for C
+pub fault_number_few : (f : Fault) → fault_number f < 32
+fault_number_few Length = lit< tt
+fault_number_few (Record n) = lit< tt
 
 -- the value beside it
 abbrev pub fault_value : Fault → ℕ
@@ -20,7 +24,7 @@ fault_value (Record n) = n
 abbrev pub fault_meaning : {A : Type 0} → Fault → Answer A
 fault_meaning f = refused (fault_number f) (fault_value f)
 
--- the verdict of `layout::check`
-abbrev pub verdict_meaning : Verdict → Answer (Unit {0})
-verdict_meaning Sound = result tt
-verdict_meaning (Declined f) = fault_meaning f
+-- what a call that takes one listing returned
+abbrev pub listing_answer : {A : Type 0} → Result A Fault → Answer A
+listing_answer (Ok a) = result a
+listing_answer (Err f) = fault_meaning f

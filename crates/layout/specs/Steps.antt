@@ -1,5 +1,6 @@
 -- What the code's own values mean, and one step of the judgement as the code takes it.
-use Rattle.std.specs.Prelude.{ℕ, ◌+◌, ◌*◌, ◌-◌, ◌<◌, Bool, true, false, cond, ◌&&◌, List, ◌≡◌, eqb, leb, get_or, drop}
+use Rattle.std.specs.Prelude.{ℕ, ◌+◌, ◌*◌, ◌-◌, ◌<◌, Bool, true, cond, ◌&&◌, List, ◌≡◌, eqb, leb, get_or, drop}
+use Rattle.std.specs.Prelude.{Option as Maybe, Some, None}
 use Rattle.std.proofs.Math.Option.{Option, none, some}
 use Rattle.signals.specs.Sets.{is_set, is_pair}
 use Rattle.layout.specs.Records
@@ -10,8 +11,6 @@ use Rattle.layout.specs.declared.records.Kind.{Kind}
 use Rattle.layout.specs.declared.records.Kind.TheVariants.{Line, And, Or, Policy, Exclusion, Unknown}
 use Rattle.layout.specs.declared.records.Record.{Record}
 use Rattle.layout.specs.declared.judging.SoFar.{SoFar}
-use Rattle.layout.specs.declared.judging.Step.{Step}
-use Rattle.layout.specs.declared.judging.Step.TheVariants.{Next, Breaks}
 
 -- a kind
 abbrev pub kind_meaning : Kind → Records.Kind
@@ -34,19 +33,19 @@ record_at ws i = record { kind = get_or ws (i * 4) 0; mask = get_or ws (i * 4 + 
 unfoldable pub records_from : List ℕ → ℕ → List Records.Record
 records_from ws i = drop i (records ws)
 
--- the mask of the policy that a line belongs to
-abbrev pub owner : Bool → ℕ → Option ℕ
-owner true mask = some mask
-owner false mask = none
+-- the mask of the policy that a line belongs to, if there is one
+abbrev pub owner : Maybe ℕ → Option ℕ
+owner (Some mask) = some mask
+owner None = none
 
 -- what stands above a record
 abbrev pub so_far_meaning : SoFar → Judgement.SoFar
-so_far_meaning so = record { policy_mask = owner so.owned so.mask; values = so.values; policies = so.policies }
+so_far_meaning so = record { policy_mask = owner so.policy_mask; values = so.values; policies = so.policies }
 
 -- a step: what stands above the next record, or nothing where the record breaks the layout
-abbrev pub step_meaning : Step → Option Judgement.SoFar
-step_meaning (Next so) = some (so_far_meaning so)
-step_meaning Breaks = none
+abbrev pub step_meaning : Maybe SoFar → Option Judgement.SoFar
+step_meaning (Some so) = some (so_far_meaning so)
+step_meaning None = none
 
 -- one step by kind, from the numbers that the record's words must have
 unfoldable pub policy_step : Records.Record → Judgement.SoFar → ℕ → ℕ → Option Judgement.SoFar

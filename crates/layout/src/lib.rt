@@ -6,12 +6,18 @@ mod judging;
 mod records;
 mod writing;
 
+ghost use Rattle.std.specs.Prelude.{Some};
+ghost use Rattle.answers.specs.Answers.{refused_text};
+ghost use Rattle.layout.specs.Meaning.{fault_number, fault_number_few, fault_value};
+
+use answers::Refusal;
 pub use judging::check;
-pub use records::{AND, EXCLUSION, Kind, MASK, NEXT, OR, RECORD_WORDS, kind_of, policy_kind};
+pub use records::{AND, EXCLUSION, Kind, MASK, NEXT, OR, RECORD_WORDS, Record, policy_kind};
+use std::fmt;
 pub use writing::{put_line, put_record};
 
 // Why a listing is declined.
-#[derive(Clone, Copy)]
+#[derive(Clone, Copy, PartialEq, Eq, Debug)]
 pub enum Fault {
     // The listing has no words, or not a multiple of four.
     Length,
@@ -19,14 +25,32 @@ pub enum Fault {
     Record(usize),
 }
 
-// The numbers that document 01 gives the two, for the crates above.
-pub const BAD_LENGTH: u64 = 9;
+impl Refusal for Fault {
+    ghost number_of = { fault_number };
 
-pub const BAD_RECORD: u64 = 10;
+    ghost value_of = { fault_value };
 
-// The verdict on the words handed in.
-#[derive(Clone, Copy)]
-pub enum Verdict {
-    Sound,
-    Declined(Fault),
+    fn number(&self) -> u64 {
+        match self {
+            Fault::Length => 9,
+            Fault::Record(_) => 10,
+        }
+    }
+
+    fn value(&self) -> u64 {
+        match self {
+            Fault::Length => 0,
+            Fault::Record(number) => *number as u64,
+        }
+    }
+
+    ghost few = { fault_number_few };
+}
+
+impl fmt::Display for Fault {
+    ghost output = { λ fault. Some (refused_text (fault_number fault) (fault_value fault)) };
+
+    fn fmt<W: fmt::Write>(&self, f: &mut fmt::Formatter<W>) -> fmt::Result {
+        write!(f, "refused {} {}", self.number(), self.value())
+    }
 }

@@ -1,20 +1,20 @@
 // Records written into lent words, where there is room for them. The crates above keep to these conditions.
 ghost use Rattle.std.specs.Prelude.{cond, ◌≡◌, ◌+◌, ◌*◌, ◌^◌, ◌≤◌, ◌<◌, eqb, length};
+ghost use Rattle.layout.specs.Steps.{record_meaning};
 ghost use Rattle.layout.specs.Writing.{RoomFor, put_record, line_record};
 
-use crate::records::{LINE, LINES, MASK, NEXT, RECORD_WORDS};
+use crate::records::{LINE, LINES, MASK, NEXT, RECORD_WORDS, Record};
 
 // Record n, which counts from 1. It may be any number that has room: `next` is a word already.
-pub fn put_record(words: &mut [u32], n: usize, kind: u32, mask: u32, lines: u32, next: u32)
+pub fn put_record(words: &mut [u32], n: usize, record: Record)
     requires { (0 < n) × (n * 4 ≤ length words.old) }
-    ensures { words.new ≡ put_record words.old n
-        (record { kind = kind; mask = mask; lines = lines; next = next }) }
+    ensures { words.new ≡ put_record words.old n (record_meaning «record») }
 {
     let at = (n - 1) * RECORD_WORDS;
-    words[at] = kind;
-    words[at + MASK] = mask;
-    words[at + LINES] = lines;
-    words[at + NEXT] = next;
+    words[at] = record.kind;
+    words[at + MASK] = record.mask;
+    words[at + LINES] = record.lines;
+    words[at + NEXT] = record.next;
 }
 
 // The next of a line as record n: 0 in the policy's last line, which is record `last`.
@@ -29,10 +29,17 @@ fn next_line(n: usize, last: usize) -> u32
 }
 
 // A line as record n.
+#[tactic(auto, unfolding(crate::specs::Writing::line_record, crate::specs::Records::line_kind))]
 pub fn put_line(words: &mut [u32], n: usize, mask: u32, last: usize)
     requires { RoomFor n 1 words.old }
     ensures { words.new ≡ put_record words.old n (line_record last n mask) }
 {
     let next = next_line(n, last);
-    put_record(words, n, LINE, mask, 0, next);
+    let line = Record {
+        kind: LINE,
+        mask,
+        lines: 0,
+        next,
+    };
+    put_record(words, n, line);
 }

@@ -4,9 +4,7 @@
 
 ghost use Rattle.std.specs.Prelude.{◌*◌, ◌≤◌, length};
 
-use printing::{
-    print, print_checked, print_choice, print_compiled, print_end, print_number, read_full,
-};
+use printing::{print_answer, print_count, read_full};
 use std::io;
 use std::io::Write;
 
@@ -16,22 +14,11 @@ const BYTES: usize = 8193;
 // Space for 4,096 records.
 const WORDS: usize = 4096 * layout::RECORD_WORDS;
 
-// What stands after the i-th word: a record has a line.
-fn print_after<W: Write>(out: &mut W, i: usize) -> io::Result<()> {
-    if i % layout::RECORD_WORDS == 0 {
-        print_end(out)
-    } else {
-        print(out, b" ")
-    }
-}
-
+// A record has a line, its words apart by spaces.
 fn print_records<W: Write>(out: &mut W, words: &[u32]) -> io::Result<()> {
-    let mut i = 0;
-    while i < words.len() {
-        let word = words[i];
-        print_number(out, word as u64)?;
-        i += 1;
-        print_after(out, i)?;
+    for (i, word) in words.iter().enumerate() {
+        let last = (i + 1) % layout::RECORD_WORDS == 0;
+        write!(out, "{word}{}", if last { "\n" } else { " " })?;
     }
     Ok(())
 }
@@ -45,16 +32,11 @@ fn print_listing<W: Write>(
 ) -> io::Result<()>
     requires { records * 4 ≤ length words.now }
 {
-    print(out, b"condition ")?;
-    print_number(out, condition as u64)?;
-    print(out, b" records ")?;
-    print_number(out, records as u64)?;
-    print_end(out)?;
-    let end = records * layout::RECORD_WORDS;
-    let listing = &words[0..end];
+    writeln!(out, "condition {condition} records {records}")?;
+    let listing = &words[..records * layout::RECORD_WORDS];
     print_records(out, listing)?;
-    print_choice(out, checks::choice(listing))?;
-    print_end(out)
+    print_answer(out, checks::choice(listing).map(|chosen| chosen.choice))?;
+    writeln!(out)
 }
 
 fn list_condition<W: Write>(
@@ -63,12 +45,10 @@ fn list_condition<W: Write>(
     condition: u32,
     words: &mut [u32],
 ) -> io::Result<()> {
-    let answer = compiler::compile(bytes, condition, words);
-    let compiler::Compiled::Records(records) = answer else {
-        print_compiled(out, answer)?;
-        return print_end(out);
-    };
-    print_listing(out, condition, records, words)
+    match compiler::compile(bytes, condition, words) {
+        Ok(records) => print_listing(out, condition, records, words),
+        Err(refusal) => writeln!(out, "{refusal}"),
+    }
 }
 
 // A declined condition leaves the words as they were, and the next ones go on.
@@ -76,30 +56,22 @@ fn list_conditions<W: Write>(out: &mut W, bytes: &[u8], conditions: usize) -> io
     requires { conditions ≤ 8 }
 {
     let mut words = [0u32; WORDS];
-    let mut n = 0;
-    while n < conditions {
-        list_condition(out, bytes, n as u32, &mut words)?;
-        n += 1;
+    for condition in 0..conditions {
+        list_condition(out, bytes, condition as u32, &mut words)?;
     }
     Ok(())
 }
 
 // A declined book prints nothing but its refusal, so it is judged before its conditions.
 fn list_book<W: Write>(out: &mut W, bytes: &[u8]) -> io::Result<()> {
-    let checked = book::check(bytes);
-    let book::Checked::Accepted {
-        policies,
-        conditions,
-    } = checked
-    else {
-        print_checked(out, checked)?;
-        return print_end(out);
-    };
-    list_conditions(out, bytes, conditions)
+    match book::check(bytes) {
+        Ok(counts) => list_conditions(out, bytes, counts.conditions),
+        Err(refusal) => writeln!(out, "{refusal}"),
+    }
 }
 
 fn main(rt: HostRuntime) -> io::Result<()> {
     let mut bytes = [0u8; BYTES];
     let length = read_full(&mut rt.stdin(), &mut bytes)?;
-    list_book(&mut rt.stdout(), &bytes[0..length])
+    list_book(&mut rt.stdout(), &bytes[..length])
 }

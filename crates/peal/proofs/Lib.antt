@@ -1,4 +1,3 @@
-pub mod CombiningLaws
 pub mod SetOrder
 pub mod Equality
 pub mod Examples

@@ -5,11 +5,12 @@ use Rattle.signals.specs.Sets.{set_of}
 use Rattle.peal.specs.declared.Operator.{Operator}
 use Rattle.peal.specs.declared.Operator.TheVariants.{Min}
 use Rattle.peal.specs.declared.Sense.{Sense}
+use Rattle.peal.specs.declared.Rule.{Rule as RuleStruct}
+use Rattle.peal.specs.declared.Exclusion.{Exclusion as ExclusionStruct}
 
--- signal S, score V
-pub record Rule : Type 0 where
-  pub signal : ℕ
-  pub score : ℤ
+-- signal S, score V: `signal : ℕ`, `score : ℤ`
+abbrev pub Rule : Type 0
+Rule = RuleStruct
 
 -- the signals of some rules, as a set
 unfoldable pub mask_of : List Rule → ℕ
@@ -29,16 +30,15 @@ pub data MinMax : Type 0 where
 abbrev pub Expression : Type 0
 Expression = Tree MinMax ℕ
 
+-- `x A B`: signals A and B never occur together (change request 1), `first : ℕ`, `second : ℕ`; the two as read
+abbrev pub Exclusion : Type 0
+Exclusion = ExclusionStruct
+
 -- `c T < E`, `c T >= E`
 pub record Condition : Type 0 where
   pub sense : Sense
   pub threshold : ℤ
   pub expression : Expression
-
--- `x A B`: signals A and B never occur together (change request 1); the two as read
-pub record Exclusion : Type 0 where
-  pub first : ℕ
-  pub second : ℕ
 
 -- policies, exclusions and conditions, each in order of appearance; policies and conditions are counted from 0
 pub record Book : Type 0 where

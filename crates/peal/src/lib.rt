@@ -8,8 +8,9 @@ ghost use Rattle.peal.specs.Combining.{combined_of};
 ghost use Rattle.peal.specs.Ranking.{rises as rises_of};
 
 // How a policy combines the scores of its rules: `sum` is Peal's +, `mul` its *.
-#[derive(Clone, Copy)]
+#[derive(Clone, Copy, Default, PartialEq, Eq)]
 pub enum Operator {
+    #[default]
     Min,
     Max,
     Sum,
@@ -17,10 +18,25 @@ pub enum Operator {
 }
 
 // What a condition asks of the score: to be above the threshold (`c T < E`) or at most the threshold (`c T >= E`).
-#[derive(Clone, Copy)]
+#[derive(Clone, Copy, Default, PartialEq, Eq)]
 pub enum Sense {
+    #[default]
     Above,
     AtMost,
+}
+
+// A rule of a policy: where the signal is present, the score counts. `r S V` in a book.
+#[derive(Clone, Copy, Default, PartialEq, Eq)]
+pub struct Rule {
+    pub signal: u32,
+    pub score: i32,
+}
+
+// Two signals that never occur together, as read. `x A B` in a book.
+#[derive(Clone, Copy, Default, PartialEq, Eq)]
+pub struct Exclusion {
+    pub first: u32,
+    pub second: u32,
 }
 
 // Ranks go by rising score in sum and max, by falling score in mul and min.
@@ -42,8 +58,8 @@ pub fn combined(o: Operator, v: i64, w: i64) -> i64
     ensures { result ≡ combined_of o v w }
 {
     match o {
-        Operator::Min => { if v <= w { v } else { w } }
-        Operator::Max => { if v <= w { w } else { v } }
+        Operator::Min => v.min(w),
+        Operator::Max => v.max(w),
         Operator::Sum => v + w,
         Operator::Mul => v * w,
     }

@@ -17,9 +17,10 @@ use Rattle.layout.specs.Meaning.{fault_number, fault_value, fault_meaning}
 use Rattle.layout.specs.declared.Fault.{Fault}
 use Rattle.rod.specs.Reading.{says}
 use Rattle.rod.specs.Traversing.{answers_to, traversed, answer_count, answers_after}
+use Rattle.std.specs.Prelude.{Result, Ok, Err}
 use Rattle.rod.specs.Meaning.{traverse_meaning, TraverseRan}
-use Rattle.rod.specs.declared.Traversed.{Traversed}
-use Rattle.rod.specs.declared.Traversed.TheVariants.{Answered, Unequal, Declined}
+use Rattle.rod.specs.declared.TraverseError.{TraverseError}
+use Rattle.rod.specs.declared.TraverseError.TheVariants.{Unequal, Declined}
 
 -- ---- the answers
 
@@ -70,17 +71,17 @@ module _ (ws sets : List ℕ) where
 
     -- ---- what the call returns and leaves in each case
 
-    refused-by : (returned : Traversed) (number value : ℕ) → traverse_meaning returned ≡ refused number value
+    refused-by : (returned : Result ℕ TraverseError) (number value : ℕ) → traverse_meaning returned ≡ refused number value
         → traversed ws sets lent ≡ refused number value → TraverseRan ws sets lent returned lent
     unfolding answer_count answers_after
     refused-by returned number value r e = record { returning = r ∙ rw e refl; leaving = rw e refl }
 
-    pub unequal : (length sets ≡ length lent → ⊥) → TraverseRan ws sets lent Unequal lent
-    unequal differ = refused-by Unequal 11 0 refl (unequal-refused differ)
+    pub unequal : (length sets ≡ length lent → ⊥) → TraverseRan ws sets lent (Err Unequal) lent
+    unequal differ = refused-by (Err Unequal) 11 0 refl (unequal-refused differ)
 
-    pub unsound : length sets ≡ length lent → (fault : Fault) → verdict ws ≡ fault_meaning fault → TraverseRan ws sets lent (Declined fault) lent
-    unsound equal fault v = refused-by (Declined fault) (fault_number fault) (fault_value fault) refl (rw (equal-examined equal, v) refl)
+    pub unsound : length sets ≡ length lent → (fault : Fault) → verdict ws ≡ fault_meaning fault → TraverseRan ws sets lent (Err (Declined fault)) lent
+    unsound equal fault v = refused-by (Err (Declined fault)) (fault_number fault) (fault_value fault) refl (rw (equal-examined equal, v) refl)
 
-    pub answered : length sets ≡ length lent → verdict ws ≡ result tt → TraverseRan ws sets lent (Answered (length sets)) (answers_to ws sets)
+    pub answered : length sets ≡ length lent → verdict ws ≡ result tt → TraverseRan ws sets lent (Ok (length sets)) (answers_to ws sets)
     unfolding answer_count answers_after
     answered equal v = record { returning = rw (equal-examined equal, v, as_many) refl; leaving = rw (equal-examined equal, v) refl }

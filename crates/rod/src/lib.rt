@@ -2,16 +2,21 @@
 // books. `decide` and `traverse` are for every caller; `reading` and `next_index` are for the crates above.
 #![tactic(auto)]
 
-ghost use Rattle.std.specs.Prelude.{◌≡◌, ◌+◌, ◌/◌, ◌≤◌, ◌<◌, length};
-ghost use Rattle.answers.specs.Answers.{result as answered};
+ghost use Rattle.std.specs.Prelude.{◌≡◌, ◌+◌, ◌/◌, ◌≤◌, ◌<◌, length, Some};
+ghost use Rattle.answers.specs.Answers.{result as answered, refused_text};
 ghost use Rattle.signals.specs.Sets.{inside};
 ghost use Rattle.layout.specs.Judgement.{verdict};
 ghost use Rattle.layout.specs.Nodes.{leading_lines};
 ghost use Rattle.layout.specs.Steps.{records_from};
 ghost use Rattle.rod.specs.Reading.{some_line, policy_value, says, rod_answer};
 ghost use Rattle.rod.specs.Traversing.{answers_to};
-ghost use Rattle.rod.specs.Meaning.{rod_meaning, TraverseRan};
+ghost use Rattle.layout.specs.Meaning.{listing_answer};
+ghost use Rattle.rod.specs.Meaning.{error_number, error_number_few, error_value, TraverseRan};
+ghost use Rattle.rod.specs.declared.TraverseError.TheVariants.{Declined};
 ghost use Rattle.rod.specs.Values.{ValueAdded, LastJoined, join_meaning, mask_at, LinesTo, listed_at, node_end, NodeTo, NodeAt, ReadingUnderway};
+
+use answers::Refusal;
+use std::fmt;
 
 // The line at index i, a signal set, lies wholly inside the set.
 fn is_inside(words: &[u32], i: usize, set: u16) -> bool
@@ -32,6 +37,7 @@ fn some_line(words: &[u32], from: usize, end: usize, set: u16) -> bool
     ensures { result ≡ some_line (leading_lines (records_from words.now from)) set }
 {
     let mut i = from;
+    // Four at a turn: with `any` over the lines a reading took a third longer.
     while TURN_LINES <= end - i {
         if is_inside(words, i, set) {
             return true;
@@ -47,11 +53,10 @@ fn some_line(words: &[u32], from: usize, end: usize, set: u16) -> bool
         }
         i += TURN_LINES;
     }
-    while i < end {
-        if is_inside(words, i, set) {
+    for rest in i..end {
+        if is_inside(words, rest, set) {
             return true;
         }
-        i += 1;
     }
     false
 }
@@ -112,7 +117,7 @@ fn after_node(words: &[u32], at: usize, end: usize, set: u16, values: u32) -> u3
     requires reading_underway { ReadingUnderway words.now set at values }
     ensures { ReadingUnderway words.now set end result }
 {
-    let kind = layout::kind_of(words[at * layout::RECORD_WORDS]);
+    let kind = layout::Kind::from(words[at * layout::RECORD_WORDS]);
     match kind {
         layout::Kind::Policy { quiet, turned } => {
             with_value(values, policy_value(words, at, end, quiet, turned, set))
@@ -132,6 +137,7 @@ pub fn reading(words: &[u32], set: u16) -> bool
 {
     let mut values: u32 = 0;
     let mut at: usize = 0;
+    // Not a `for`: the nodes' `next` lead over their lines.
     while at < words.len() / layout::RECORD_WORDS {
         let end = next_index(words, at);
         values = after_node(words, at, end, set, values);
@@ -140,29 +146,11 @@ pub fn reading(words: &[u32], set: u16) -> bool
     values == 1
 }
 
-// The rod's answer.
-#[derive(Clone, Copy)]
-pub enum Decision {
-    Yes,
-    No,
-    // The listing was declined.
-    Declined(layout::Fault),
-}
-
-pub fn decide(words: &[u32], set: u16) -> Decision
-    ensures { rod_meaning result ≡ rod_answer words.now set }
+pub fn decide(words: &[u32], set: u16) -> Result<bool, layout::Fault>
+    ensures { listing_answer result ≡ rod_answer words.now set }
 {
-    let verdict = layout::check(words);
-    match verdict {
-        layout::Verdict::Sound => {
-            if reading(words, set) {
-                Decision::Yes
-            } else {
-                Decision::No
-            }
-        }
-        layout::Verdict::Declined(fault) => Decision::Declined(fault),
-    }
+    layout::check(words)?;
+    Ok(reading(words, set))
 }
 
 // Writes what the sound listing says of each set: 1 for yes, 0 for no.
@@ -171,40 +159,67 @@ fn answer_all(words: &[u32], sets: &[u16], answers: &mut [u8])
     requires sets_len { length sets.now ≡ length answers.old }
     ensures { answers.new ≡ answers_to words.now sets.now }
 {
-    let mut i: usize = 0;
-    while i < sets.len() {
-        answers[i] = reading(words, sets[i]) as u8;
-        i += 1;
+    for (i, set) in sets.iter().enumerate() {
+        answers[i] = reading(words, *set) as u8;
     }
 }
 
-// What a traverse returns.
+// Why a traverse is refused.
 #[derive(Clone, Copy)]
-pub enum Traversed {
-    // So many answers were written, one for each set.
-    Answered(usize),
+pub enum TraverseError {
     // The answers lent are not as many as the sets.
     Unequal,
     // The listing was declined.
     Declined(layout::Fault),
 }
 
-// The number that change request 6 gives unequal slices, for the crates above.
-pub const UNEQUAL: u64 = 11;
+impl From<layout::Fault> for TraverseError {
+    ghost from_gives = { λ fault error. error ≡ Declined fault };
 
-pub fn traverse(words: &[u32], sets: &[u16], answers: &mut [u8]) -> Traversed
+    fn from(fault: layout::Fault) -> TraverseError {
+        TraverseError::Declined(fault)
+    }
+}
+
+impl Refusal for TraverseError {
+    ghost number_of = { error_number };
+
+    ghost value_of = { error_value };
+
+    fn number(&self) -> u64 {
+        match self {
+            TraverseError::Unequal => 11,
+            TraverseError::Declined(fault) => fault.number(),
+        }
+    }
+
+    fn value(&self) -> u64 {
+        match self {
+            TraverseError::Unequal => 0,
+            TraverseError::Declined(fault) => fault.value(),
+        }
+    }
+
+    ghost few = { error_number_few };
+}
+
+impl fmt::Display for TraverseError {
+    ghost output = { λ error. Some (refused_text (error_number error) (error_value error)) };
+
+    fn fmt<W: fmt::Write>(&self, f: &mut fmt::Formatter<W>) -> fmt::Result {
+        write!(f, "refused {} {}", self.number(), self.value())
+    }
+}
+
+// Writes an answer for each set, and returns how many.
+pub fn traverse(words: &[u32], sets: &[u16], answers: &mut [u8]) -> Result<usize, TraverseError>
     ensures { TraverseRan words.now sets.now answers.old
         result answers.new }
 {
     if sets.len() != answers.len() {
-        return Traversed::Unequal;
+        return Err(TraverseError::Unequal);
     }
-    let verdict = layout::check(words);
-    match verdict {
-        layout::Verdict::Sound => {
-            answer_all(words, sets, answers);
-            Traversed::Answered(sets.len())
-        }
-        layout::Verdict::Declined(fault) => Traversed::Declined(fault),
-    }
+    layout::check(words)?;
+    answer_all(words, sets, answers);
+    Ok(sets.len())
 }

@@ -5,6 +5,7 @@ use mathlib.Core.List.{List, [], ◌∷◌, Forall₂}
 use mathlib.Core.Path.{◌≡◌, refl, sym, ap, subst, ◌∙◌}
 use lib.IntN.{ℤ}
 use lib.ListN.{length, replicate}
+use Rattle.std.specs.Prelude.{Ok}
 use Rattle.arith.specs.Trees.{Node, value, joining, postfix, run}
 use Rattle.answers.specs.Answers.{result}
 use Rattle.signals.proofs.SetOfLaws.{inside-overlap}
@@ -22,7 +23,6 @@ use Rattle.text.specs.Text.{bytes}
 use Rattle.book.proofs.AskedLaws.{asked-in-range}
 use Rattle.compiler.specs.Compiling.{compiled, returned, left_by, compiled_listing}
 use Rattle.compiler.specs.Meaning.{CompilingRan}
-use Rattle.compiler.specs.declared.Compiled.TheVariants.{Records}
 use Rattle.agreement.specs.Demand3.{MinimalMasks, StandsFor, MinimalListing}
 use Rattle.agreement.proofs.Conditions.{policy-in-range}
 use Rattle.agreement.proofs.Demand3.{compiled-sound, minimal-listing}
@@ -95,7 +95,7 @@ module _ (listing : List ℕ) (p : ListedPolicy) (h : OnePolicy listing p) where
 
 -- the listing of a book's condition, compiled into as many words as it has
 pub just-fits : (text : String) (number count : ℕ) {listing : List ℕ} {p : ListedPolicy}
-    → CompilingRan (bytes text) number (replicate (4 * count) 0) listing (Records count)
+    → CompilingRan (bytes text) number (replicate (4 * count) 0) listing (Ok count)
     → listing ≡ compiled_listing count listing → nodes (records listing) ≡ value p ∷ [] → OnePolicy listing p
 just-fits text number count {listing} compiling listed one =
     record {

@@ -5,6 +5,7 @@ use mathlib.Core.List.Permᴰ
 use mathlib.Core.List.{List, [], ◌∷◌}
 use mathlib.Core.Path.{◌≡◌, refl, sym, ◌∙◌}
 use native.Mathlib.Omega.{arith}
+use Rattle.std.specs.Prelude.{Ok}
 use Rattle.answers.specs.Answers.{result}
 use Rattle.answers.proofs.Results.{result-is}
 use Rattle.arith.proofs.Reordering.{length-reordered}
@@ -14,7 +15,7 @@ use Rattle.layout.specs.Nodes.{ListedPolicy}
 use Rattle.rod.specs.Reading.{rod_answer}
 use Rattle.rod.specs.Computing.{rod_computes}
 use Rattle.checks.specs.Checks.{permitted, differ_at, comparison, alike}
-use Rattle.checks.specs.declared.ComparisonAnswer.TheVariants.{Alike}
+use Rattle.checks.specs.declared.Comparison.TheVariants.{Alike}
 use Rattle.checks.proofs.Answers.{alike-tells}
 use Rattle.compiler.specs.Computing.{compiler_computes}
 use Rattle.same_lines.specs.SameLines.{OnePolicy}
@@ -114,6 +115,6 @@ premises =
       quiet = λ tells. not_alike (words 17 1) (words 16 1) 0 refl refl ((tells _ _ _ _ (record { first = speaks-quiet; second = speaks; equal = (refl, refl) })).1 (Permᴰ.refl (1 ∷ [])) 0 (omega arith));
       turned = λ tells. not_alike (words 16 1) (words 18 1) 1 refl refl ((tells _ _ _ _ (record { first = speaks; second = speaks-against; equal = (refl, refl) })).1 (Permᴰ.refl (1 ∷ [])) 1 (omega arith));
       mask = λ tells. not_alike (words 17 1) (words 17 3) 2 refl refl ((tells _ _ _ _ (record { first = speaks-quiet; second = speaks-wide; equal = refl })).1 (Permᴰ.refl (1 ∷ [])) 2 (omega arith));
-      first = λ tells. one-and-none (length-reordered ((tells _ _ _ _ (record { first = line-of-pair; second = no_line; equal = (refl, refl) }) tt refl Alike (sym first_alike)).0 refl));
-      second = λ tells. one-and-none (sym (length-reordered ((tells _ _ _ _ (record { first = no_line; second = line-of-pair; equal = (refl, refl) }) refl tt Alike (sym second_alike)).0 refl)));
+      first = λ tells. one-and-none (length-reordered ((tells _ _ _ _ (record { first = line-of-pair; second = no_line; equal = (refl, refl) }) tt refl (Ok Alike) (sym first_alike)).0 refl));
+      second = λ tells. one-and-none (sym (length-reordered ((tells _ _ _ _ (record { first = no_line; second = line-of-pair; equal = (refl, refl) }) refl tt (Ok Alike) (sym second_alike)).0 refl)));
     }

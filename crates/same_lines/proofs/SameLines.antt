@@ -5,6 +5,7 @@ use mathlib.Core.List.{List}
 use mathlib.Core.Logic.{◌↔◌, inl, inr, ⊎_elim}
 use mathlib.Core.Path.{◌≡◌, refl, sym, ap, subst, ◌∙◌}
 use native.Mathlib.Omega.{arith}
+use Rattle.std.specs.Prelude.{Result, Ok, Err}
 use Rattle.answers.specs.Answers.{result}
 use Rattle.answers.proofs.Results.{result-is}
 use Rattle.arith.proofs.EveryExists.{exists-in}
@@ -19,8 +20,9 @@ use Rattle.layout.proofs.KindLaws.{kind-policy}
 use Rattle.rod.specs.Reading.{some_line, policy_value, says, rod_answer}
 use Rattle.checks.specs.Checks.{permitted, Which, first, second, alike, differ_at}
 use Rattle.checks.specs.Meaning.{comparison_meaning}
-use Rattle.checks.specs.declared.ComparisonAnswer.{ComparisonAnswer}
-use Rattle.checks.specs.declared.ComparisonAnswer.TheVariants.{Alike, FirstYes, SecondYes, FirstDeclined, SecondDeclined}
+use Rattle.checks.specs.declared.Comparison.{Comparison}
+use Rattle.checks.specs.declared.Comparison.TheVariants.{Alike, Differ}
+use Rattle.checks.specs.declared.CompareError.{CompareError}
 use Rattle.checks.proofs.Answers.{comparison-tells, alike-tells}
 use Rattle.arith.specs.Members.{Among}
 use Rattle.arith.proofs.Distinct.{same-members}
@@ -47,13 +49,11 @@ or-the-same false false h = refl
 or-the-same true false h = h (λ e. clash refl e)
 or-the-same false true h = h (λ e. clash refl (sym e))
 
--- only `Alike` means alike
-only-alike : (answer : ComparisonAnswer) → comparison_meaning answer ≡ alike → answer ≡ Alike
-only-alike Alike e = refl
-only-alike (FirstYes set) e = let z : ◌≡◌ {A = ℕ} 0 1 = cc in absurd (omega arith)
-only-alike (SecondYes set) e = let z : ◌≡◌ {A = ℕ} 0 1 = cc in absurd (omega arith)
-only-alike (FirstDeclined f) e = let z : ◌≡◌ {A = ℕ} 0 1 = cc in absurd (omega arith)
-only-alike (SecondDeclined f) e = let z : ◌≡◌ {A = ℕ} 0 1 = cc in absurd (omega arith)
+-- only `Ok Alike` means alike
+only-alike : (answer : Result Comparison CompareError) → comparison_meaning answer ≡ alike → answer ≡ Ok Alike
+only-alike (Ok Alike) h = refl
+only-alike (Ok (Differ set which)) h = cc
+only-alike (Err e) h = cc
 
 -- which of the two has the line where the first says this: the one that says yes, or if turned the other
 abbrev owner : Bool → Bool → Which
@@ -183,14 +183,14 @@ module _ (one two : List ℕ) (p q : ListedPolicy) (a : Known one p) (b : Known 
     then-none : (set : ℕ) → SameValue set → differ_at one two set ≡ false
     then-none set same = difference set ∙ ap (λ (v : Bool). not (beq v (policy_value set q))) same ∙ ap not (beq-self (policy_value set q))
 
-    compared-so : (answer : ComparisonAnswer) → Compared one two answer → (answer ≡ Alike) ↔ SameLines p q
+    compared-so : (answer : Result Comparison CompareError) → Compared one two answer → (answer ≡ Ok Alike) ↔ SameLines p q
     compared-so answer c =
         let (there, back) = alike-tells one two a.sound b.sound in (
           λ said. then_lines (λ set l. none_then set (there (sym c ∙ ap comparison_meaning said) set l)),
           λ lines. only-alike answer (c ∙ back (λ set l. then-none set (lines_then lines set))),
         )
 
-    named-so : (answer : ComparisonAnswer) → Compared one two answer → (answer ≡ Alike → ⊥) → NamesLine p q answer
+    named-so : (answer : Result Comparison CompareError) → Compared one two answer → (answer ≡ Ok Alike → ⊥) → NamesLine p q answer
     named-so answer c not_alike =
         ⊎_elim (λ (said, none). absurd (not_alike (only-alike answer (c ∙ said))))
         (λ (set, said, (small, here, below)).

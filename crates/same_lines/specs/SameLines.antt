@@ -1,5 +1,5 @@
 -- Claimed: same lines, same policy (change request 12). Proved in proofs/SameLines.antt.
-use Rattle.std.specs.Prelude.{ℕ, ◌≤◌, ◌<◌, cond, ◌↔◌, ◌⊎◌, ◌≡◌}
+use Rattle.std.specs.Prelude.{ℕ, ◌≤◌, ◌<◌, cond, ◌↔◌, ◌⊎◌, ◌≡◌, Result, Ok}
 use mathlib.Core.List.{List, [], ◌∷◌, Permᴰ}
 use Rattle.arith.specs.Trees.{value}
 use Rattle.layout.specs.Records.{records, policy_kind}
@@ -7,12 +7,12 @@ use Rattle.layout.specs.Nodes.{ListedPolicy, nodes, excluded}
 use Rattle.rod.specs.Reading.{rod_answer}
 use Rattle.checks.specs.Checks.{Which, first, second, differ, comparison}
 use Rattle.checks.specs.Meaning.{comparison_meaning}
-use Rattle.checks.specs.declared.ComparisonAnswer.{ComparisonAnswer}
-use Rattle.checks.specs.declared.ComparisonAnswer.TheVariants.{Alike}
+use Rattle.checks.specs.declared.Comparison.{Comparison}
+use Rattle.checks.specs.declared.Comparison.TheVariants.{Alike}
+use Rattle.checks.specs.declared.CompareError.{CompareError}
 use Rattle.arith.specs.Members.{Among}
 use Rattle.compiler.specs.Compiling.{compiled_listing}
 use Rattle.compiler.specs.Meaning.{CompilingRan}
-use Rattle.compiler.specs.declared.Compiled.TheVariants.{Records}
 
 -- ---- two compiled listings of one policy each
 
@@ -24,7 +24,7 @@ pub record OnePolicy (listing : List ℕ) (policy : ListedPolicy) : Type 0 where
   pub lent : List ℕ
   pub left : List ℕ
   pub count : ℕ
-  pub compiling : CompilingRan bytes number lent left (Records count)
+  pub compiling : CompilingRan bytes number lent left (Ok count)
   pub listed : listing ≡ compiled_listing count left
   pub one : nodes (records listing) ≡ value policy ∷ []
 
@@ -88,7 +88,7 @@ abbrev pub LowestApart : List ℕ → List ℕ → ℕ → Type 0
 LowestApart one two set = (AlikeOn one two set → ⊥) × ((lower : ℕ) → lower < set → AlikeOn one two lower)
 
 -- `checks::compare`, handed the two, returned this answer
-abbrev pub Compared : List ℕ → List ℕ → ComparisonAnswer → Type 0
+abbrev pub Compared : List ℕ → List ℕ → Result Comparison CompareError → Type 0
 Compared one two answer = comparison_meaning answer ≡ comparison one two
 
 -- the other of the two
@@ -102,7 +102,7 @@ AloneOf p q first line = AloneIn p q line
 AloneOf p q second line = AloneIn q p line
 
 -- an answer that names the lowest line that only one of them has; that one says yes there, or no if it is turned
-pub record NamesLine (p q : ListedPolicy) (answer : ComparisonAnswer) : Type 0 where
+pub record NamesLine (p q : ListedPolicy) (answer : Result Comparison CompareError) : Type 0 where
   pub set : ℕ
   pub yes : Which
   pub told : comparison_meaning answer ≡ differ set yes
@@ -120,7 +120,7 @@ DecisionsTellLines Equal =
 abbrev pub ComparisonTellsLines : (ListedPolicy → ListedPolicy → Type 0) → (First Second : List ℕ → Type 0) → Type 0
 ComparisonTellsLines Equal First Second =
     (one two : List ℕ) (p q : ListedPolicy) → TwoPolicies Equal one two p q → First one → Second two
-    → (answer : ComparisonAnswer) → Compared one two answer → (answer ≡ Alike) ↔ SameLines p q
+    → (answer : Result Comparison CompareError) → Compared one two answer → (answer ≡ Ok Alike) ↔ SameLines p q
 
 -- what the lines of two such policies tell
 pub record LinesTell (Equal : ListedPolicy → ListedPolicy → Type 0) : Type 0 where
@@ -134,7 +134,8 @@ pub record LinesTell (Equal : ListedPolicy → ListedPolicy → Type 0) : Type 0
   -- and otherwise names the lowest line that only one of them has
   pub named : (one two : List ℕ) (p q : ListedPolicy) → TwoPolicies Equal one two p q
       → NoExclusions one → NoExclusions two
-      → (answer : ComparisonAnswer) → Compared one two answer → (answer ≡ Alike → ⊥) → NamesLine p q answer
+      → (answer : Result Comparison CompareError) → Compared one two answer
+      → (answer ≡ Ok Alike → ⊥) → NamesLine p q answer
 
 -- same lines, same policy
 pub record SameLinesSamePolicy : Type 0 where

@@ -1,9 +1,8 @@
 -- The score of a policy, its rules one by one: the operator over the present rules, and how large it is.
-use Prim.Native.Nat.{ℕ, zero, suc, ◌+◌, ◌-◌, ◌*◌, ◌^◌, ◌≤◌}
+use Prim.Native.Nat.{ℕ, ◌-◌, ◌*◌, ◌^◌, ◌≤◌}
 use mathlib.Core.List.{List, [], ◌∷◌}
 use mathlib.Core.Path.{◌≡◌, refl, sym, ap, subst, ◌∙◌}
 use native.Mathlib.Nat.{le_trans, pow-le-pow_right}
-use native.Mathlib.Numerals.{add-one}
 use native.Mathlib.Omega.{arith}
 use lib.IntN.{ℤ, pos, ◌+ℤ◌, ◌*ℤ◌, +ℤ_idr}
 use lib.ListN.{length}
@@ -21,7 +20,6 @@ use Rattle.peal.proofs.TwoLaws.{one_of_two}
 use Rattle.book.specs.Acceptance.{within, score_in_range}
 use Rattle.book.proofs.ScoreSizes.{score-mag, InRange, Room}
 use Rattle.score.specs.PolicyScores.{over, present_of, value_with, with_score}
-use Rattle.score.specs.declared.policies.Present.{Present}
 
 -- ---- the operator over rules, as it is defined
 
@@ -53,24 +51,6 @@ unfolding applied scaled_product
 applied-mul r rs = ap (λ (z : ℤ). z *ℤ pos (100 ^ (8 - length (r ∷ rs)))) (over-mul r rs)
 
 -- ---- one rule more
-
-module _ (o : Operator) (so : Present) (v : ℤ) where
-  pub with_first : so.count ≡ 0 → ◌≡◌ {A = Present} (record { count = 1; value = v }) (with_score o so v)
-  unfolding with_score value_with
-  with_first e = ap (λ (n : ℕ). record { count = suc n; value = value_with o n so.value v }) (sym e)
-
-  with-more : (n : ℕ) → (n ≡ 0 → ⊥) → value_with o n so.value v ≡ combined_of o v so.value
-  unfolding value_with
-  with-more zero h = absurd (h refl)
-  with-more (suc n) h = refl
-
-  pub with-another : (so.count ≡ 0 → ⊥) → ◌≡◌ {A = Present} (record { count = so.count + 1; value = combined_of o v so.value }) (with_score o so v)
-  unfolding with_score
-  with-another h = λ i. record { count = add-one so.count i; value = sym (with-more so.count h) i }
-
-  pub another-small : (so.count ≡ 0 → ⊥) → mag (with_score o so v).value ≤ 10 ^ 16 → mag (combined_of o v so.value) ≤ 10 ^ 16
-  unfolding with_score
-  another-small h k = subst (λ (z : ℤ). mag z ≤ 10 ^ 16) (with-more so.count h) k
 
 pub present-more : (p : Policy) (r : Rule) (rs : List Rule) → with_score p.operator (present_of p rs) r.score ≡ present_of p (r ∷ rs)
 unfolding with_score value_with present_of over

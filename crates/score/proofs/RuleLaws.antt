@@ -1,18 +1,25 @@
--- The present rules of a policy, one by one.
-use Prim.Native.Nat.{ℕ, ◌-◌, ◌^◌, ◌≤◌, ◌<◌}
+-- The present rules of a policy, one by one from the last to the first.
+use Prim.Native.Nat.{ℕ, ◌-◌, ◌*◌, ◌^◌, ◌≤◌, ◌<◌}
 use mathlib.Core.Bool.{Bool, true, false, cond}
-use mathlib.Core.List.{List, [], ◌∷◌}
-use mathlib.Core.Option.{Option, none, some}
+use mathlib.Core.List.{List, [], ◌∷◌, ◌++◌, append_assoc}
+use mathlib.Core.Option.{none, some}
 use mathlib.Core.Path.{◌≡◌, refl, sym, ap, subst, ◌∙◌}
 use native.Mathlib.Omega.{arith}
-use lib.IntN.{ℤ, pos, ◌*ℤ◌}
-use lib.ListN.{length, get_or, drop, length-drop, drop_of_length-le}
-use lib.Signed.{mag}
+use native.Mathlib.Nat.{le_trans, pow-le-pow_right}
+use lib.Dec.{T}
+use lib.IntN.{ℤ, pos, nat_abs, ◌*ℤ◌}
+use lib.ListN.{length, length-append}
+use lib.Signed.{mag, non_neg}
+use mir.Syntax.{w64}
+use mir.Val.{Fits, to_z, of_z}
+use mir.ValLaws.{to_z_pos}
+use Rattle.arith.proofs.Signed.{natural-fits}
+use Rattle.arith.specs.Members.{Each}
+use Rattle.arith.proofs.Each.{each-rest, each_map}
+use Rattle.arith.proofs.Keep.{keep-few, each_keep}
 use Rattle.arith.specs.Options.{if◌then◌}
-use Rattle.arith.proofs.Keep.{keep-few, each_keep, each-drop}
 use Rattle.signals.specs.Sets.{present}
 use Rattle.peal.specs.Policies.{Rule, Policy}
-use Rattle.peal.specs.Standins.{no_rule}
 use Rattle.peal.specs.Score.{scaled, present_rules, applied, score_of, policy_score}
 use Rattle.peal.specs.declared.Operator.{Operator}
 use Rattle.peal.specs.declared.Operator.TheVariants.{Mul}
@@ -20,68 +27,38 @@ use Rattle.limits.specs.Limits.{default_in_range}
 use Rattle.book.specs.Ranges.{PolicyInRange}
 use Rattle.book.proofs.RangeLaws.{rules-at-most}
 use Rattle.book.proofs.ScoreSizes.{within-mag, InScore, InRange, Room}
-use Rattle.book.proofs.StoredRules.{rules-before}
 use Rattle.score.specs.PolicyScores.{rule_score, over, present_of, with_score}
 use Rattle.score.specs.declared.policies.Present.{Present}
 use Rattle.score.proofs.PolicyLaws.{applied-whole, applied-mul, mul-natural, over-small, present-more}
 
-module _ (q : Policy) (i set : ℕ) (there : Bool) (told : there ≡ present set (get_or q.rules i no_rule).signal) where
-  pub rule-present : there ≡ true → (v : ℤ) → v ≡ (get_or q.rules i no_rule).score → some v ≡ rule_score set (get_or q.rules i no_rule)
-  unfolding rule_score
-  rule-present y v k = rw (sym told ∙ y) (ap (λ (z : ℤ). some z) k)
+-- ---- one rule more
 
-  pub rule-absent : there ≡ false → none ≡ rule_score set (get_or q.rules i no_rule)
-  unfolding rule_score
-  rule-absent n = rw (sym told ∙ n)
+-- the last of those that are left is taken
+pub one_taken : (rest front taken rules : List Rule) (r : Rule) → rest ++ taken ≡ rules → rest ≡ front ++ (r ∷ []) → front ++ (r ∷ taken) ≡ rules
+one_taken rest front taken rules r e f = sym (append_assoc front (r ∷ []) taken) ∙ ap (λ (l : List Rule). l ++ taken) (sym f) ∙ e
 
--- ---- the present rules from rule i on
+module _ (q : Policy) (set : ℕ) (r : Rule) (taken : List Rule) where
+  abbrev before : Present
+  before = present_of q (present_rules set taken)
 
-module _ (set : ℕ) (rules : List Rule) where
-  pub none_after : (q : Policy) (i : ℕ) → length rules ≤ i → ◌≡◌ {A = Present} (record { count = 0; value = q.default }) (present_of q (present_rules set (drop i rules)))
-  unfolding present_rules present_of
-  none_after q i h = rw (drop_of_length-le rules {i = i} h)
+  abbrev after : Present
+  after = present_of q (present_rules set (r ∷ taken))
 
-  present-cons : (r : Rule) (rs : List Rule) (v : ℤ) → rule_score set r ≡ some v → (present_rules set (r ∷ rs) ≡ r ∷ present_rules set rs) × (r.score ≡ v)
+  pub present-counted : (v : ℤ) → some v ≡ rule_score set r → with_score q.operator before v ≡ after
   unfolding rule_score present_rules
-  present-cons r rs v h = go (present set r.signal) h
+  present-counted v h = go (present set r.signal) h
     where
-      out : {X : Type 0} {w : ℤ} → ◌≡◌ {A = Option ℤ} none (some w) → X
-      out k = let z : ◌≡◌ {A = ℕ} 0 1 = cc in absurd (omega arith)
+      go : (b : Bool) → some v ≡ (if b then some r.score) → with_score q.operator before v ≡ present_of q (cond b (r ∷ present_rules set taken) (present_rules set taken))
+      go true h = let e : v ≡ r.score = cc in ap (with_score q.operator before) e ∙ present-more q r (present_rules set taken)
+      go false h = cc
 
-      value : (x : ℤ) → Option ℤ → ℤ
-      value x none = x
-      value x (some y) = y
-
-      go : (b : Bool) → (if b then some r.score) ≡ some v → (cond b (r ∷ present_rules set rs) (present_rules set rs) ≡ r ∷ present_rules set rs) × (r.score ≡ v)
-      go true k = (refl, ap (value v) k)
-      go false k = out k
-
-  absent-cons : (r : Rule) (rs : List Rule) → rule_score set r ≡ none → present_rules set (r ∷ rs) ≡ present_rules set rs
+  pub absent-left : none ≡ rule_score set r → before ≡ after
   unfolding rule_score present_rules
-  absent-cons r rs h = go (present set r.signal) h
+  absent-left h = go (present set r.signal) h
     where
-      out : {X : Type 0} {w : ℤ} → ◌≡◌ {A = Option ℤ} (some w) none → X
-      out k = let z : ◌≡◌ {A = ℕ} 0 1 = cc in absurd (omega arith)
-
-      go : (b : Bool) → (if b then some r.score) ≡ none → cond b (r ∷ present_rules set rs) (present_rules set rs) ≡ present_rules set rs
-      go true k = out k
-      go false k = refl
-
-  module _ (q : Policy) (i : ℕ) (some_left : 0 < i) (inside : i ≤ length rules) where
-    -- rule i - 1 is present with score v
-    module _ (v : ℤ) (h : rule_score set (get_or rules (i - 1) no_rule) ≡ some v) where
-      rule-counted : with_score q.operator (present_of q (present_rules set (drop i rules))) v ≡ present_of q (present_rules set (drop (i - 1) rules))
-      rule-counted =
-          let r = get_or rules (i - 1) no_rule in
-          let c = present-cons r (drop i rules) v h in
-          ap (with_score q.operator (present_of q (present_rules set (drop i rules)))) (sym c.1)
-          ∙ present-more q r (present_rules set (drop i rules))
-          ∙ ap (present_of q) (sym (ap (present_rules set) (rules-before rules i some_left inside) ∙ c.0))
-
-    -- rule i - 1 is absent
-    rule-not-counted : rule_score set (get_or rules (i - 1) no_rule) ≡ none → present_of q (present_rules set (drop i rules)) ≡ present_of q (present_rules set (drop (i - 1) rules))
-    rule-not-counted h =
-        ap (present_of q) (sym (ap (present_rules set) (rules-before rules i some_left inside) ∙ absent-cons (get_or rules (i - 1) no_rule) (drop i rules) h))
+      go : (b : Bool) → none ≡ (if b then some r.score) → before ≡ present_of q (cond b (r ∷ present_rules set taken) (present_rules set taken))
+      go true h = cc
+      go false h = refl
 
 -- ---- sizes
 
@@ -95,76 +72,85 @@ unfolding present_of
 count_of q [] = refl
 count_of q (r ∷ rs) = refl
 
-module _ (set : ℕ) (q : Policy) (r : PolicyInRange q) (i : ℕ) where
-  fewer : length (present_rules set (drop i q.rules)) ≤ length q.rules - i
+-- rule r and those after it, of a policy in range
+module _ (q : Policy) (range : PolicyInRange q) (set : ℕ) (front taken : List Rule) (r : Rule) (all : front ++ (r ∷ taken) ≡ q.rules) where
+  pub signal-small : r.signal < 16
+  signal-small =
+      (each-rest (λ (x : Rule). x.signal < 16) front (r ∷ taken)
+      (subst (Each (λ (x : Rule). x.signal < 16)) (sym all) (each_map (◌< 16) (λ (x : Rule). x.signal) q.rules range.signals))).0
+
+  fewer : length taken < length q.rules
+  fewer = omega (arith, ap length all, length-append front (r ∷ taken))
+
+  pub count-small : (present_of q (present_rules set taken)).count < 16
   unfolding present_rules
-  fewer = omega (arith, keep-few (λ (x : Rule). present set x.signal) (drop i q.rules), length-drop i q.rules)
+  count-small =
+      omega (arith, fewer, rules-at-most q range, count_of q (present_rules set taken), keep-few (λ (x : Rule). present set x.signal) taken)
 
-  pub present-value-small : mag (present_of q (present_rules set (drop i q.rules))).value ≤ 10 ^ 16
+  pub value-kept : mag (present_of q (present_rules set (r ∷ taken))).value ≤ 10 ^ 16
   unfolding present_rules default_in_range
-  present-value-small =
-      value-small q (present_rules set (drop i q.rules)) (within-mag 10000 10000 q.default r.default 10000 (omega arith) (omega arith))
-      (each_keep (λ (x : Rule). present set x.signal) (InScore q.operator) (drop i q.rules) (each-drop (InScore q.operator) i q.rules r.scores))
-      (omega (arith, fewer, rules-at-most q r), λ m. omega (arith, fewer, r.room m))
-
-  pub present-count-small : 0 < i → (present_of q (present_rules set (drop i q.rules))).count < 16
-  present-count-small h = omega (arith, count_of q (present_rules set (drop i q.rules)), fewer, rules-at-most q r)
-
--- ---- one turn, from rule i to rule i - 1
-
-module _ (q : Policy) (set i : ℕ) (some_left : 0 < i) (inside : i ≤ length q.rules) (so : Present) (before : so ≡ present_of q (present_rules set (drop i q.rules))) where
-  pub turn-present : (o : Operator) → o ≡ q.operator → (v : ℤ) → some v ≡ rule_score set (get_or q.rules (i - 1) no_rule)
-      → with_score o so v ≡ present_of q (present_rules set (drop (i - 1) q.rules))
-  turn-present o e v h =
-      ap (λ (p : Operator). with_score p so v) e ∙ ap (λ (x : Present). with_score q.operator x v) before
-      ∙ rule-counted set q.rules q i some_left inside v (sym h)
-
-  pub turn-absent : none ≡ rule_score set (get_or q.rules (i - 1) no_rule) → so ≡ present_of q (present_rules set (drop (i - 1) q.rules))
-  turn-absent h = before ∙ rule-not-counted set q.rules q i some_left inside (sym h)
+  value-kept =
+      let kept = keep-few (λ (x : Rule). present set x.signal) (r ∷ taken) in
+      value-small q (present_rules set (r ∷ taken)) (within-mag 10000 10000 q.default range.default 10000 (omega arith) (omega arith))
+      (each_keep (λ (x : Rule). present set x.signal) (InScore q.operator) (r ∷ taken)
+      (each-rest (InScore q.operator) front (r ∷ taken) (subst (Each (InScore q.operator)) (sym all) range.scores)))
+      (omega (arith, fewer, kept, rules-at-most q range), λ m. omega (arith, fewer, kept, range.room m))
 
 -- ---- the score, from the present rules
 
+-- the value is a natural, and fits
+pub record Product (so : Present) : Type 0 where
+  pub natural : ℕ
+  pub same : so.value ≡ pos natural
+  pub bound : natural ≤ 100 ^ so.count
+  pub room : so.count ≤ 8
+
+module _ (so : Present) (p : Product so) where
+  few : p.natural ≤ 10 ^ 16
+  few = omega (arith, le_trans p.bound (pow-le-pow_right {n = 100} (omega arith) {j = 8} p.room))
+
+  -- as it is read back
+  pub product-back : to_z w64 (of_z w64 so.value) ≡ pos p.natural
+  product-back = rw p.same (to_z_pos w64 p.natural (omega (arith, few)))
+
+  pub product-cast : T (non_neg (to_z w64 (of_z w64 so.value))) × Fits w64 (nat_abs (to_z w64 (of_z w64 so.value)))
+  product-cast = natural-fits (to_z w64 (of_z w64 so.value)) p.natural product-back (omega (arith, few))
+
+  pub product-is : (n : ℕ) → pos (nat_abs (to_z w64 (of_z w64 so.value)) * n) ≡ so.value *ℤ pos n
+  product-is n = rw (product-back, p.same) refl
+
 module _ (set : ℕ) (q : Policy) (so : Present) (told : so ≡ present_of q (present_rules set q.rules)) where
-  pub none-present : so.count ≡ 0 → scaled so.value ≡ policy_score set q
+  -- min, max and sum, and the default
+  pub whole-score : (q.operator ≡ Mul → so.count ≡ 0) → scaled so.value ≡ policy_score set q
   unfolding policy_score score_of present_of
-  none-present z =
-      subst (λ (x : Present). scaled x.value ≡ policy_score set q) (sym told)
-      (go (present_rules set q.rules) (sym (ap (λ (x : Present). x.count) told ∙ count_of q (present_rules set q.rules)) ∙ z))
+  whole-score h = go (present_rules set q.rules) told
     where
-      go : (rs : List Rule) → length rs ≡ 0 → scaled (present_of q rs).value ≡ score_of q rs
-      go [] h = refl
-      go (r ∷ rs) h = absurd (omega arith)
+      go : (rs : List Rule) → so ≡ present_of q rs → scaled so.value ≡ score_of q rs
+      go [] e = ap (λ (x : Present). scaled x.value) e
+      go (r ∷ rs) e =
+          ap (λ (x : Present). scaled x.value) e
+          ∙ applied-whole q.operator (λ m. let none = h m in omega (arith, ap (λ (x : Present). x.count) e)) r rs
 
-  -- some rule is present
-  module _ (some-present : so.count ≡ 0 → ⊥) where
-    by-rules : (P : Present → ℤ → Type 0) → ((r : Rule) (rs : List Rule) → present_rules set q.rules ≡ r ∷ rs → P (present_of q (r ∷ rs)) (applied q.operator r rs)) → P so (policy_score set q)
+  -- some rule of a mul policy is present
+  module _ (is_mul : q.operator ≡ Mul) (some : 0 < so.count) where
+    pub product-score : so.value *ℤ pos (100 ^ (8 - so.count)) ≡ policy_score set q
     unfolding policy_score score_of present_of
-    by-rules P f = subst (λ (x : Present). P x (policy_score set q)) (sym told) (go (present_rules set q.rules) refl)
+    product-score = go (present_rules set q.rules) told
       where
-        go : (rs : List Rule) → present_rules set q.rules ≡ rs → P (present_of q rs) (score_of q rs)
-        go [] h = absurd (some-present (ap (λ (x : Present). x.count) told ∙ ap (λ (l : List Rule). (present_of q l).count) h))
-        go (r ∷ rs) h = f r rs h
+        go : (rs : List Rule) → so ≡ present_of q rs → so.value *ℤ pos (100 ^ (8 - so.count)) ≡ score_of q rs
+        go [] e = absurd (omega (arith, ap (λ (x : Present). x.count) e))
+        go (r ∷ rs) e =
+            ap (λ (x : Present). x.value *ℤ pos (100 ^ (8 - x.count))) e
+            ∙ subst (λ (o : Operator). over o r rs *ℤ pos (100 ^ (8 - length (r ∷ rs))) ≡ applied o r rs) (sym is_mul) (applied-mul r rs)
 
-    -- min, max and sum
-    pub whole-score : (q.operator ≡ Mul → ⊥) → scaled so.value ≡ policy_score set q
-    unfolding present_of
-    whole-score h = by-rules (λ (x : Present) (z : ℤ). scaled x.value ≡ z) (λ r rs _. applied-whole q.operator h r rs)
-
-    pub product-score : q.operator ≡ Mul → so.value *ℤ pos (100 ^ (8 - so.count)) ≡ policy_score set q
-    unfolding present_of
-    product-score e =
-        by-rules (λ (x : Present) (z : ℤ). x.value *ℤ pos (100 ^ (8 - x.count)) ≡ z)
-        (λ r rs h. subst (λ (p : Operator). over p r rs *ℤ pos (100 ^ (8 - length (r ∷ rs))) ≡ applied p r rs) (sym e) (applied-mul r rs))
-
-    pub product-natural : PolicyInRange q → q.operator ≡ Mul → (n : ℕ) × (so.value ≡ pos n) × (n ≤ 100 ^ so.count)
+    pub product-fits : PolicyInRange q → Product so
     unfolding present_of present_rules
-    product-natural k e =
-        by-rules (λ (x : Present) (z : ℤ). (n : ℕ) × (x.value ≡ pos n) × (n ≤ 100 ^ x.count))
-        (λ r rs h.
-        subst (λ (p : Operator). InRange p (r ∷ rs) → (n : ℕ) × (over p r rs ≡ pos n) × (n ≤ 100 ^ length (r ∷ rs))) (sym e) (mul-natural r rs)
-        (subst (InRange q.operator) h (each_keep (λ (x : Rule). present set x.signal) (InScore q.operator) q.rules k.scores)))
-
-  pub product-few : PolicyInRange q → q.operator ≡ Mul → so.count ≤ 8
-  unfolding present_rules
-  product-few k e =
-      omega (arith, ap (λ (x : Present). x.count) told, count_of q (present_rules set q.rules), keep-few (λ (x : Rule). present set x.signal) q.rules, k.room e)
+    product-fits range =
+        let here : Rule → Bool = λ r. present set r.signal in
+        go (present_rules set q.rules) told (each_keep here (InScore q.operator) q.rules range.scores) (omega (arith, keep-few here q.rules, range.room is_mul))
+      where
+        go : (rs : List Rule) → so ≡ present_of q rs → InRange q.operator rs → length rs ≤ 8 → Product so
+        go [] e h k = absurd (omega (arith, ap (λ (x : Present). x.count) e))
+        go (r ∷ rs) e h k =
+            let (n, f, l) = mul-natural r rs (subst (λ (o : Operator). InRange o (r ∷ rs)) is_mul h) in
+            subst Product (sym e) (record { natural = n; same = ap (λ (o : Operator). over o r rs) is_mul ∙ f; bound = l; room = k })

@@ -2,13 +2,11 @@
 use Prim.Native.Nat.{ℕ, ◌+◌, ◌-◌, ◌*◌, ◌/◌, ◌^◌, ◌≤◌}
 use mathlib.Core.Bool.{Bool, true}
 use mathlib.Core.List.{List, [], ◌∷◌}
-use mathlib.Core.Path.{◌≡◌, refl, sym, ap, ap₂, subst, ◌∙◌}
-use native.Mathlib.Nat.{mul-le-mul_right}
+use mathlib.Core.Path.{◌≡◌, refl, sym, ap, ap₂, subst}
 use native.Mathlib.Omega.{arith}
 use lib.Dec.{leb}
 use lib.IntN.{ℤ, pos, negsuc, neg_ℤ, ◌+ℤ◌, ◌*ℤ◌}
 use lib.ListN.{length}
-use lib.Pow.{pow-add}
 use lib.Signed.{le_z}
 use borrow.Author.Tests.{leb-true, le-leb}
 use Rattle.arith.specs.Members.{Each}
@@ -31,6 +29,7 @@ use Rattle.book.specs.Ranges.{PolicyInRange}
 use Rattle.book.proofs.RangeLaws.{rules-at-most}
 use Rattle.book.proofs.ScoreSizes.{InScore, InRange, Room}
 use Rattle.score.specs.Shown.{shown}
+use Rattle.score.proofs.PairLaws.{few-parts}
 
 -- the lowest score and the highest
 abbrev lowest : ℤ
@@ -95,11 +94,7 @@ product-in-parts : (rs : List Rule) → InRange Mul rs → length rs ≤ 8 → (
 unfolding scaled_product score_in_range within score_fits
 product-in-parts rs h k =
     let (p, e, l) = product-natural rs h in
-    let all : length rs + (8 - length rs) ≡ 8 = omega arith in (
-      p * 100 ^ (8 - length rs),
-      ap (λ (z : ℤ). z *ℤ pos (100 ^ (8 - length rs))) e,
-      subst (λ (n : ℕ). p * 100 ^ (8 - length rs) ≤ n) (sym (pow-add 100 (length rs) (8 - length rs)) ∙ ap (λ (n : ℕ). 100 ^ n) all) (mul-le-mul_right (100 ^ (8 - length rs)) l),
-    )
+    (p * 100 ^ (8 - length rs), ap (λ (z : ℤ). z *ℤ pos (100 ^ (8 - length rs))) e, few-parts p (length rs) l k)
 
 one_of_all : (m : MinMax) (r : Rule) (rs : List Rule) → Each (λ (q : Rule). One q.score) (r ∷ rs) → One (of_all m r rs)
 unfolding of_all

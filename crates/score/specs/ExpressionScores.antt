@@ -1,5 +1,5 @@
 -- The scores that wait for a join, as the code keeps them, and where it stands in an expression.
-use Rattle.std.specs.Prelude.{ℕ, ◌-◌, ◌≤◌, ◌<◌, List, [], ◌∷◌, ◌≡◌, ℤ, pos, length, get_or, drop}
+use Rattle.std.specs.Prelude.{ℕ, ◌≤◌, List, [], ◌∷◌, reverse, ◌≡◌, ℤ, length, drop}
 use Rattle.arith.specs.Trees.{postfix, run}
 use Rattle.arith.specs.Leaves.{LeavesOne}
 use Rattle.peal.specs.Policies.{Policy, Expression, policy_at}
@@ -7,23 +7,18 @@ use Rattle.peal.specs.Score.{of_two, policy_score, score}
 use Rattle.score.specs.Pairs.{Is}
 use Rattle.score.specs.declared.exact.Exact.{Exact}
 
--- a cell with no score
-unfoldable pub no_score : Exact
-no_score = record { hundredths = pos 0; remainder = 0 }
-
--- the cells below a height are these scores, the last first
-abbrev pub HeldBelow : List Exact → ℕ → List ℤ → Type 0
-HeldBelow cells h [] = h ≡ 0
-HeldBelow cells h (v ∷ vs) = (0 < h) × Is (get_or cells (h - 1) no_score) v × HeldBelow cells (h - 1) vs
-
--- sixteen cells, of which those below the height are these scores
-abbrev pub HoldsScores : List Exact → ℕ → List ℤ → Type 0
-HoldsScores cells h vs = (length cells ≡ 16) × HeldBelow cells h vs
+-- these pairs are these scores, in order
+abbrev pub AreScores : List Exact → List ℤ → Type 0
+AreScores [] [] = Unit {0}
+AreScores (x ∷ xs) (v ∷ vs) = Is x v × AreScores xs vs
+AreScores [] (v ∷ vs) = ⊥
+AreScores (x ∷ xs) [] = ⊥
 
 -- before node i of an expression: what waits is enough, and leads to the score
-pub record Underway (ps : List Policy) (set : ℕ) (e : Expression) (i : ℕ) (cells : List Exact) (height : ℕ) : Type 0 where
+pub record Underway (ps : List Policy) (set : ℕ) (e : Expression) (i : ℕ) (waiting : List Exact) : Type 0 where
+  -- the last first
   pub values : List ℤ
-  pub held : HoldsScores cells height values
+  pub held : AreScores (reverse waiting) values
   pub enough : LeavesOne (drop i (postfix e)) (length values)
   pub few : length values ≤ i
   pub same : run of_two (λ k. policy_score set (policy_at ps k)) (drop i (postfix e)) values ≡ score ps set e ∷ []

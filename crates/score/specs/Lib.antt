@@ -1,7 +1,6 @@
 pub mod Decisions
 pub mod Shown
 pub mod ShownTells
-pub mod Meaning
 pub mod Pairs
 pub mod PolicyScores
 pub mod ExpressionScores

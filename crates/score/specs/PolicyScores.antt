@@ -1,22 +1,16 @@
 -- The score of a policy as the code makes it: its rules one by one.
 use Rattle.std.specs.Prelude.{ℕ, zero, suc, List, [], ◌∷◌, ℤ, length}
-use Rattle.std.proofs.Math.Option.{Option, none, some}
+use Rattle.std.proofs.Math.Option.{Option, some}
 use Rattle.arith.specs.Options.{if◌then◌}
 use Rattle.signals.specs.Sets.{present}
 use Rattle.peal.specs.Policies.{Rule, Policy}
 use Rattle.peal.specs.Combining.{combined_of}
 use Rattle.peal.specs.declared.Operator.{Operator}
-use Rattle.score.specs.declared.policies.Scored.{Scored}
-use Rattle.score.specs.declared.policies.Scored.TheVariants.{Present as Counted, Absent}
 use Rattle.score.specs.declared.policies.Present.{Present}
 
 -- what a rule adds on a signal set
 unfoldable pub rule_score : ℕ → Rule → Option ℤ
 rule_score set r = if present set r.signal then some r.score
-
-abbrev pub scored_meaning : Scored → Option ℤ
-scored_meaning (Counted v) = some v
-scored_meaning Absent = none
 
 -- the operator over the scores of a rule and more
 unfoldable pub over : Operator → Rule → List Rule → ℤ

@@ -6,71 +6,43 @@ mod exact;
 mod expressions;
 mod policies;
 
-ghost use Rattle.std.specs.Prelude.{◌≡◌};
+ghost use Rattle.std.specs.Prelude.{◌≡◌, ◌<◌, length};
 ghost use Rattle.peal.specs.Score.{decision};
-ghost use Rattle.book.specs.Ranges.{ConditionKept, ForAsked};
+ghost use Rattle.book.specs.Asked.{the_condition};
+ghost use Rattle.book.specs.Meaning.{condition_answer};
 ghost use Rattle.score.specs.Decisions.{scored_answer};
 ghost use Rattle.score.specs.Shown.{shown_answer};
-ghost use Rattle.score.specs.Meaning.{score_meaning, shown_meaning};
 
+use book::{Book, Declined};
 pub use exact::Exact;
 use exact::meets;
 use expressions::expression_score;
 
-// The logger's answer.
-#[derive(Clone, Copy)]
-pub enum Decision {
-    Yes,
-    No,
-    Declined(book::Declined),
-}
-
-// Condition n of a read book is met on the set.
-fn is_met(cells: &book::Cells, n: usize, set: u16) -> bool
-    requires { ConditionKept cells.now n }
-    ensures { ForAsked cells.now n (λ b c. result ≡ decision b.policies c set) }
+// Condition n of the book is met on the set.
+fn is_met(book: &Book, n: usize, set: u16) -> bool
+    requires { n < length book.now.conditions }
+    ensures { result ≡ decision book.now.policies (the_condition book.now n) set }
 {
-    let sense = book::sense_at(cells, n);
-    let threshold = book::threshold_at(cells, n);
-    let score = expression_score(cells, n, set);
-    meets(sense, threshold, score)
+    let condition = &book.conditions()[n];
+    let score = expression_score(book, n, set);
+    meets(condition.sense(), condition.threshold(), score)
 }
 
-pub fn decide(bytes: &[u8], condition: u32, set: u16) -> Decision
-    ensures { score_meaning result ≡ scored_answer bytes.now condition set }
+// Whether the condition of that number is met on the set.
+pub fn decide(bytes: &[u8], condition: u32, set: u16) -> Result<bool, Declined>
+    ensures { condition_answer result ≡ scored_answer bytes.now condition set }
 {
-    let mut cells = [0i32; book::CELL_COUNT];
-    let asked = book::ask(bytes, condition, &mut cells);
-    match asked {
-        book::Asked::Condition(n) => {
-            if is_met(&cells, n, set) {
-                Decision::Yes
-            } else {
-                Decision::No
-            }
-        }
-        book::Asked::Declined(why) => Decision::Declined(why),
-    }
+    let mut book = Book::default();
+    let n = book::ask(bytes, condition, &mut book)?;
+    Ok(is_met(&book, n, set))
 }
 
-// The score by which a condition is decided.
-#[derive(Clone, Copy)]
-pub enum Evaluation {
-    // That of its expression on the set: hundredths rounded toward minus infinity, and the exact remainder.
-    Score(Exact),
-    Declined(book::Declined),
-}
-
-pub fn evaluate(bytes: &[u8], condition: u32, set: u16) -> Evaluation
-    ensures { shown_meaning result ≡ shown_answer bytes.now condition set }
+// The score by which a condition is decided, that of its expression on the set: hundredths rounded toward minus infinity,
+// and the exact remainder.
+pub fn evaluate(bytes: &[u8], condition: u32, set: u16) -> Result<Exact, Declined>
+    ensures { condition_answer result ≡ shown_answer bytes.now condition set }
 {
-    let mut cells = [0i32; book::CELL_COUNT];
-    let asked = book::ask(bytes, condition, &mut cells);
-    match asked {
-        book::Asked::Condition(n) => {
-            let shown = expression_score(&cells, n, set);
-            Evaluation::Score(shown)
-        }
-        book::Asked::Declined(why) => Evaluation::Declined(why),
-    }
+    let mut book = Book::default();
+    let n = book::ask(bytes, condition, &mut book)?;
+    Ok(expression_score(&book, n, set))
 }

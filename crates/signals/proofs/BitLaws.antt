@@ -111,7 +111,7 @@ lowest-bit (suc k) word p h = go (word % 2) refl (λ (e : word % 2 ≡ 0). lowes
 -- ---- how many bits are one
 
 -- of a number below 2 to the k: as many as its members below k
-ones-count : (k word : ℕ) → word < 2 ^ k → ones word ≡ count_below k (present word)
+pub ones-count : (k word : ℕ) → word < 2 ^ k → ones word ≡ count_below k (present word)
 unfolding ones
 ones-count zero word h = let z : word ≡ 0 = omega arith in ap ones z ∙ sym (count-zero (present word))
 ones-count (suc k) word h =

@@ -1,4 +1,3 @@
 pub mod SetLaws
 pub mod SetOfLaws
 pub mod BitLaws
-pub mod PairLaws

@@ -4,9 +4,6 @@
 ghost use Rattle.std.specs.Prelude.{◌&&◌, [], ◌∷◌, ◌≡◌, ◌≤◌};
 ghost use Rattle.signals.specs.Sets.{is_set, present, inside, is_pair, set_of};
 
-// How many signals there are.
-const SIGNALS: u32 = 16;
-
 // The set of all of them: a number above it is no signal set.
 pub const HIGHEST_SET: u32 = 65535;
 
@@ -37,15 +34,5 @@ pub fn lies_inside(mask: u32, set: u16) -> bool
 pub fn is_pair(mask: u32) -> bool
     ensures { result ≡ is_pair mask }
 {
-    if mask > HIGHEST_SET {
-        return false;
-    }
-    let set = mask as u16;
-    let mut count: u32 = 0;
-    let mut signal: u32 = 0;
-    while signal < SIGNALS {
-        count += is_present(set, signal) as u32;
-        signal += 1;
-    }
-    count == 2
+    mask <= HIGHEST_SET && u32::count_ones(mask) == 2
 }

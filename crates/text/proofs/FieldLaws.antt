@@ -1,101 +1,87 @@
--- Laws of fields: the fields of a line by the ends of each; fields that are read are not empty.
-use Prim.Native.Nat.{ℕ, ◌+◌, ◌-◌, ◌≤◌}
+-- Laws of fields: the fields of a line, cut off one by one; fields that are read are not empty.
+use Prim.Native.Nat.{ℕ, suc, ◌+◌, ◌-◌, ◌≤◌, ◌<◌}
 use mathlib.Core.List.{List, [], ◌∷◌}
 use mathlib.Core.Option.{some}
-use mathlib.Core.Path.{◌≡◌, ◌∙◌}
+use mathlib.Core.Path.{◌≡◌, ap, ◌∙◌}
+use native.Mathlib.Numerals.{add-one}
 use native.Mathlib.Omega.{arith}
 use lib.IntN.{ℤ}
 use lib.ListN.{length, take, drop, length-drop, length-take}
-use lib.Seq.{take_all}
+use lib.Seq.{drop-drop}
 use Rattle.peal.specs.declared.Sense.{Sense}
 use Rattle.text.specs.Text.{space, fields, is}
 use Rattle.text.specs.Numbers.{number}
 use Rattle.text.specs.Forms.{sense_word, sense}
 use Rattle.text.specs.Spelling.{up_to}
-use Rattle.text.proofs.NumberLaws.{none-some}
-use Rattle.text.proofs.TextLaws.{later_pieces, parted-first, end-within, parted-at, parted-at-last}
+use Rattle.text.specs.LineMeaning.{FirstField}
+use Rattle.text.proofs.WordLaws.{words}
+use Rattle.text.proofs.TextLaws.{drop-part, up_to-le, later_pieces, parted-first, parted-more, parted-last}
 
--- the field at `at` ends at e, and the line goes on after it
-pub record Cut (s : List ℕ) (at e : ℕ) : Type 0 where
-  pub within : at ≤ length s
-  pub end : e ≡ at + up_to space (drop at s)
-  pub more : e ≡ length s → ⊥
+-- ---- the first field, and the others
 
--- the field at `at` ends at e, the line's end
-pub record Last (s : List ℕ) (at e : ℕ) : Type 0 where
-  pub within : at ≤ length s
-  pub end : e ≡ at + up_to space (drop at s)
-  pub no_more : e ≡ length s
-
-pub cut_on : (s : List ℕ) (at e : ℕ) → Cut s at e → e + 1 ≤ length s
-cut_on s at e c = let n = c.more in omega (arith, end-within space s at e c.within c.end)
-
-a-field : (s : List ℕ) (at e : ℕ) → Cut s at e → fields (drop at s) ≡ take (e - at) (drop at s) ∷ fields (drop (e + 1) s)
+pub last-field : (s : List ℕ) (e : ℕ) → e ≡ up_to space s → e ≡ length s → fields s ≡ s ∷ []
 unfolding fields
-a-field s at e c = parted-at space s at e c.within c.end (omega (arith, cut_on s at e c))
+last-field s e q l = parted-last space s (omega arith)
 
-the_last : (s : List ℕ) (at e : ℕ) → Last s at e → fields (drop at s) ≡ drop at s ∷ []
+pub first-field : (s : List ℕ) (e : ℕ) → e ≡ up_to space s → (e ≡ length s → ⊥) → FirstField s (take e s) (take (length s - (e + 1)) (drop (e + 1) s))
 unfolding fields
-the_last s at e c = parted-at-last space s at e c.within c.end (let n = c.no_more in omega arith)
+first-field s e q n =
+    let more : up_to space s < length s = omega (arith, up_to-le space s) in
+    record {
+      more = omega (arith, length-take e s);
+      after = let l : length (take e s) ≡ e = omega (arith, length-take e s) in rw (drop-part s (e + 1), l, add-one e);
+      parts = rw (drop-part s (e + 1), q, add-one (up_to space s), parted-more space s more);
+    }
 
-last-field : (s : List ℕ) (at e : ℕ) → Last s at e → fields (drop at s) ≡ take (e - at) (drop at s) ∷ []
-last-field s at e c =
-    let l = c.within in
-    let n = c.no_more in
-    rw (the_last s at e c, take_all (e - at) (drop at s) (omega (arith, length-drop at s)))
+-- by these the first field is cut off
+pub ruleset first_fields = (up_to-le, length-take, last-field, first-field)
 
 some-field : (s : List ℕ) → (f : List ℕ) × (fs : List (List ℕ)) × (fields s ≡ f ∷ fs)
 unfolding fields
 some-field s = (take (up_to space s) s, later_pieces space s, parted-first space s)
 
--- the first field, as the code has it
-first_field : (s : List ℕ) (e : ℕ) → Cut s 0 e → fields s ≡ take e s ∷ fields (drop (e + 1) s)
-first_field s e c = let q : e - 0 ≡ e = omega arith in rw q at (a-field s 0 e c)
+-- all fields of a line, where the first ones are cut off one by one
+module _ {s a r : List ℕ} (first : FirstField s a r) where
+  pub two-fields : fields r ≡ r ∷ [] → fields s ≡ a ∷ r ∷ []
+  two-fields e = first.parts ∙ rw e
 
--- all fields of a line, by the ends of each
-module _ (s : List ℕ) where
-  pub one_field : (d : ℕ) → Last s 0 d → fields s ≡ s ∷ []
-  one_field d l = the_last s 0 d l
+  module _ {b t : List ℕ} (second : FirstField r b t) where
+    pub three-fields : fields t ≡ t ∷ [] → fields s ≡ a ∷ b ∷ t ∷ []
+    three-fields e = first.parts ∙ rw (second.parts, e)
 
-  pub two_fields : (d e : ℕ) → Cut s 0 d → Last s (d + 1) e
-      → fields s ≡ take d s ∷ take (e - (d + 1)) (drop (d + 1) s) ∷ []
-  two_fields d e c l = first_field s d c ∙ rw (last-field s (d + 1) e l)
+    module _ {c u : List ℕ} (third : FirstField t c u) where
+      -- the fourth begins after the three and a space after each
+      fourth-at : u ≡ drop (suc (length a) + suc (length b) + suc (length c)) s
+      fourth-at = third.after ∙ rw (second.after, first.after, drop-drop (suc (length b)) (suc (length a)) s, drop-drop (suc (length c)) (suc (length a) + suc (length b)) s)
 
-  pub three-fields : (d e f : ℕ) → Cut s 0 d → Cut s (d + 1) e → Last s (e + 1) f
-      → fields s ≡ take d s ∷ take (e - (d + 1)) (drop (d + 1) s) ∷ take (f - (e + 1)) (drop (e + 1) s) ∷ []
-  three-fields d e f c c' l = first_field s d c ∙ rw (a-field s (d + 1) e c', last-field s (e + 1) f l)
+      pub fourth-in : length s - length u ≡ 3 + length a + length b + length c
+      fourth-in =
+          let x = ap length first.after in
+          let y = ap length second.after in
+          let z = ap length third.after in
+          omega (arith, length-drop (suc (length a)) s, length-drop (suc (length b)) r, length-drop (suc (length c)) t)
 
-  pub four-fields : (d e f g : ℕ) → Cut s 0 d → Cut s (d + 1) e → Cut s (e + 1) f → Last s (f + 1) g
-      → fields s
-      ≡ take d s ∷ take (e - (d + 1)) (drop (d + 1) s) ∷ take (f - (e + 1)) (drop (e + 1) s) ∷ drop (f + 1) s ∷ []
-  four-fields d e f g c c' c'' l = first_field s d c ∙ rw (a-field s (d + 1) e c', a-field s (e + 1) f c'', the_last s (f + 1) g l)
+      pub four-fields : fields u ≡ u ∷ [] → fields s ≡ a ∷ b ∷ c ∷ drop (length s - length u) s ∷ []
+      four-fields e =
+          let n : suc (length a) + suc (length b) + suc (length c) ≡ length s - length u = omega (arith, fourth-in) in
+          first.parts ∙ rw (second.parts, third.parts, e) (ap (λ (x : List ℕ). a ∷ b ∷ c ∷ x ∷ []) (rw n at fourth-at))
 
-  pub five-fields : (d e f g : ℕ) → Cut s 0 d → Cut s (d + 1) e → Cut s (e + 1) f → Cut s (f + 1) g
-      → (h : List ℕ) × (hs : List (List ℕ)) × (fields s
-      ≡ take d s ∷ take (e - (d + 1)) (drop (d + 1) s) ∷ take (f - (e + 1)) (drop (e + 1) s) ∷ take (g - (f + 1)) (drop (f + 1) s) ∷ h ∷ hs)
-  five-fields d e f g c c' c'' c''' =
-      let r = some-field (drop (g + 1) s) in
-      (r.0, r.1, first_field s d c ∙ rw (a-field s (d + 1) e c', a-field s (e + 1) f c'', a-field s (f + 1) g c''', r.2))
-
-pub first-length : (s : List ℕ) (e : ℕ) → Cut s 0 e → e ≡ length (take e s)
-first-length s e c = omega (arith, cut_on s 0 e c, length-take e s)
-
-field-length : (s : List ℕ) (at e : ℕ) → Cut s at e → at + length (take (e - at) (drop at s)) ≤ e
-field-length s at e c = let q = c.end in omega (arith, length-take (e - at) (drop at s))
-
--- where the fourth field begins
-pub four-start : (s : List ℕ) (d e f : ℕ) → Cut s 0 d → Cut s (d + 1) e → Cut s (e + 1) f
-    → 3 + length (take d s) + length (take (e - (d + 1)) (drop (d + 1) s)) + length (take (f - (e + 1)) (drop (e + 1) s)) ≤ f + 1
-four-start s d e f c c' c'' = omega (arith, length-take d s, field-length s (d + 1) e c', field-length s (e + 1) f c'')
+      pub five-fields : {d v : List ℕ} → FirstField u d v → (f : List ℕ) × (fs : List (List ℕ)) × (fields s ≡ a ∷ b ∷ c ∷ d ∷ f ∷ fs)
+      five-fields {d} {v} fourth =
+          let more = some-field v in
+          (more.0, more.1, first.parts ∙ rw (second.parts, third.parts, fourth.parts, more.2))
 
 -- ---- fields that are read
 
 pub number-length : (s : List ℕ) (z : ℤ) → number s ≡ some z → 1 ≤ length s
 unfolding number
-number-length [] z e = absurd (none-some e)
+number-length [] z e = absurd cc
 number-length (b ∷ s) z e = omega arith
 
 pub sense-length : (s : List ℕ) (c : Sense) → sense s ≡ some c → 1 ≤ length s
 unfolding sense sense_word is
-sense-length [] c e = absurd (none-some e)
+sense-length [] c e = absurd cc
 sense-length (b ∷ s) c e = omega arith
+
+-- by these the fields of a condition leave six bytes at least before its expression
+pub ruleset read_fields = (words, number-length, sense-length)

@@ -1,16 +1,15 @@
 -- A line of at most 128 bytes has space for at most 16 mentions of a policy, by its fields.
 use Prim.Native.Nat.{ℕ, suc, ◌+◌, ◌*◌, ◌≤◌}
-use mathlib.Core.Bool.{Bool, true, false, cond}
 use mathlib.Core.List.{List, [], ◌∷◌}
 use mathlib.Core.Option.{some}
 use mathlib.Core.Path.{◌≡◌, refl}
 use native.Mathlib.Omega.{arith}
-use lib.Dec.{eqb}
 use lib.IntN.{ℤ}
 use lib.ListN.{length}
 use Rattle.arith.proofs.Options.{Finds, finds-that, finds-then, finds-any, finds-if, finds-either}
 use Rattle.peal.specs.Policies.{Expression}
 use Rattle.peal.specs.declared.Sense.{Sense}
+use Rattle.std.proofs.lemmas.Bool.Decides.{nat_tests}
 use Rattle.text.specs.Text.{bytes, longer, parted, space, fields, is}
 use Rattle.text.specs.Numbers.{natural, number}
 use Rattle.text.specs.Expressions.{expression}
@@ -33,11 +32,7 @@ longer-span b (p ∷ ps) h = omega arith
 parted-span : (x : ℕ) (s : List ℕ) → span (parted x s) ≡ suc (length s)
 unfolding span parted
 parted-span x [] = refl
-parted-span x (b ∷ s) = go (eqb b x) (parted-span x s)
-  where
-    go : (t : Bool) → span (parted x s) ≡ suc (length s) → span (cond t ([] ∷ parted x s) (longer b (parted x s))) ≡ suc (suc (length s))
-    go true h = omega arith
-    go false h = omega (arith, longer-span b (parted x s) (omega arith))
+parted-span x (b ∷ s) = grind (arith, nat_tests, parted-span x s, longer-span b (parted x s))
 
 -- a condition has at most 16 mentions
 abbrev pub FewMentions : Form → Type 0

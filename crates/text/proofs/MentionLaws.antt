@@ -14,6 +14,7 @@ use Rattle.text.specs.Text.{bytes, begins, after}
 use Rattle.text.specs.Numbers.{natural}
 use Rattle.text.specs.Expressions.{mention_word, min_max_word, digit_count, mention, leading_join, leading_expression, leading_pair, nothing_after, expression}
 use Rattle.text.specs.Codes.{codes_of, code_of}
+use Rattle.text.specs.declared.expressions.Code.{Code}
 use Rattle.text.proofs.CodeLaws.{codes-leaf, codes-join}
 use Rattle.text.proofs.NumberLaws.{digits-within, natural-length}
 use Rattle.text.proofs.WordLaws.{begins-length}
@@ -23,7 +24,7 @@ use Rattle.text.proofs.ExpressionLaws.{join-length, join-begins}
 
 pub codes-count : (e : Expression) → length (codes_of e) + 1 ≡ 2 * leaf_count e
 unfolding leaf_count
-codes-count (leaf n) = ap (λ (l : List ℕ). length l + 1) (codes-leaf n)
+codes-count (leaf n) = ap (λ (l : List Code). length l + 1) (codes-leaf n)
 codes-count (join m a b) =
     omega (arith, codes-count a, codes-count b, ap length (codes-join m a b), length-append (codes_of a) (codes_of b), length-append (codes_of a ++ codes_of b) (code_of (joining m) ∷ []))
 

@@ -3,7 +3,7 @@ use Prim.Native.Nat.{ℕ, suc, ◌+◌, ◌-◌, ◌≤◌, ◌<◌}
 use mathlib.Core.Bool.{Bool, true, false, cond}
 use mathlib.Core.List.{List, [], ◌∷◌}
 use mathlib.Core.Logic.{⊎_elim}
-use mathlib.Core.Path.{◌≡◌, refl, sym, ap, subst, ◌∙◌}
+use mathlib.Core.Path.{◌≡◌, refl, ap, ◌∙◌}
 use native.Mathlib.Nat.{eq-or-lt_of_le}
 use native.Mathlib.Numerals.{add-one}
 use native.Mathlib.Omega.{arith}
@@ -11,46 +11,45 @@ use lib.Dec.{eqb, ltb, leb-suc-suc}
 use lib.ListN.{length, get_or, take, drop, drop_of_length-le, length-drop}
 use lib.Seq.{drop-cons, drop-drop, take_all}
 use borrow.Author.Tests.{eq-eqb, ne_eqb, lt-ltb, le-ltb}
+use Rattle.std.proofs.lemmas.Bool.Decides.{nat_tests}
 use Rattle.text.specs.Text.{Line, longer, parted, as_lines, text_lines}
 use Rattle.text.specs.Spelling.{up_to}
 
+-- what stands from a place on, as a slice has it
+pub drop-part : (s : List ℕ) (at : ℕ) → take (length s - at) (drop at s) ≡ drop at s
+drop-part s at = take_all (length s - at) (drop at s) (omega (arith, length-drop at s))
+
 -- ---- the next x, from a place on
 
-x-here : (x : ℕ) (s : List ℕ) (i : ℕ) → i < length s → get_or s i 0 ≡ x → up_to x (drop i s) ≡ 0
+pub x-here : (x : ℕ) (s : List ℕ) (i : ℕ) → i < length s → get_or s i 0 ≡ x → up_to x (drop i s) ≡ 0
 unfolding up_to
 x-here x s i h e = rw (drop-cons s i 0 h, eq-eqb (get_or s i 0) x e)
 
-x-further : (x : ℕ) (s : List ℕ) (i : ℕ) → i < length s → (get_or s i 0 ≡ x → ⊥) → up_to x (drop i s) ≡ suc (up_to x (drop (i + 1) s))
+pub x-further : (x : ℕ) (s : List ℕ) (i : ℕ) → i < length s → (get_or s i 0 ≡ x → ⊥) → up_to x (drop i s) ≡ suc (up_to x (drop (i + 1) s))
 unfolding up_to
 x-further x s i h e = rw (drop-cons s i 0 h, ne_eqb (get_or s i 0) x e, add-one i)
 
-no-x : (x : ℕ) (s : List ℕ) (i : ℕ) → length s ≤ i → up_to x (drop i s) ≡ 0
+pub no-x : (x : ℕ) (s : List ℕ) (i : ℕ) → length s ≤ i → up_to x (drop i s) ≡ 0
 unfolding up_to
 no-x x s i h = rw (drop_of_length-le s h)
 
--- no x stands between `at` and i
-pub record NoneUpTo (x : ℕ) (s : List ℕ) (at i : ℕ) : Type 0 where
-  pub passed : at + up_to x (drop at s) ≡ i + up_to x (drop i s)
+-- four places further on
+pub x-further_four : (x : ℕ) (s : List ℕ) (i : ℕ) → i + 4 ≤ length s → (get_or s i 0 ≡ x → ⊥) → (get_or s (i + 1) 0 ≡ x → ⊥) → (get_or s (i + 2) 0 ≡ x → ⊥) → (get_or s (i + 3) 0 ≡ x → ⊥)
+    → up_to x (drop i s) ≡ 4 + up_to x (drop (i + 4) s)
+x-further_four x s i h a b c d =
+    let third : i + 2 ≡ i + 1 + 1 = omega arith in
+    let fourth : i + 3 ≡ i + 1 + 1 + 1 = omega arith in
+    let end : i + 4 ≡ i + 1 + 1 + 1 + 1 = omega arith in
+    rw end
+    (omega (arith, x-further x s i (omega arith) a, x-further x s (i + 1) (omega arith) b, x-further x s (i + 1 + 1) (omega arith) (rw (← third) c), x-further x s (i + 1 + 1 + 1) (omega arith) (rw (← fourth) d)))
 
-module _ {x : ℕ} {s : List ℕ} {at i : ℕ} (n : NoneUpTo x s at i) where
-  pub next_here : i < length s → get_or s i 0 ≡ x → i ≡ at + up_to x (drop at s)
-  next_here h e = omega (arith, n.passed, x-here x s i h e)
+-- by these a byte that was looked at carries the search on, or ends it
+pub ruleset next_places = (x-here, x-further, no-x)
 
-  -- and so up to the next place j
-  pub next-further : (j : ℕ) → j ≡ i + 1 → i < length s → (get_or s i 0 ≡ x → ⊥) → NoneUpTo x s at j
-  next-further j q h e = subst (NoneUpTo x s at) (sym q) (record { passed = omega (arith, n.passed, x-further x s i h e) })
-
-  pub next-nowhere : length s ≤ i → i ≡ at + up_to x (drop at s)
-  next-nowhere h = omega (arith, n.passed, no-x x s i h)
-
-up_to-le : (x : ℕ) (s : List ℕ) → up_to x s ≤ length s
+pub up_to-le : (x : ℕ) (s : List ℕ) → up_to x s ≤ length s
 unfolding up_to
 up_to-le x [] = omega arith
-up_to-le x (b ∷ s) = go (eqb b x) (up_to-le x s)
-  where
-    go : (t : Bool) → up_to x s ≤ length s → cond t 0 (suc (up_to x s)) ≤ suc (length s)
-    go true h = omega arith
-    go false h = omega arith
+up_to-le x (b ∷ s) = grind (arith, nat_tests, up_to-le x s)
 
 -- ---- the pieces between the bytes x
 
@@ -72,10 +71,10 @@ unfolding parted up_to
 parted-first x [] = refl
 parted-first x (b ∷ s) = first_step (eqb b x) x b s (parted-first x s)
 
-parted-more : (x : ℕ) (s : List ℕ) → up_to x s < length s → parted x s ≡ take (up_to x s) s ∷ parted x (drop (suc (up_to x s)) s)
+pub parted-more : (x : ℕ) (s : List ℕ) → up_to x s < length s → parted x s ≡ take (up_to x s) s ∷ parted x (drop (suc (up_to x s)) s)
 parted-more x s h = parted-first x s ∙ rw (lt-ltb (up_to x s) (length s) h)
 
-parted-last : (x : ℕ) (s : List ℕ) → length s ≤ up_to x s → parted x s ≡ s ∷ []
+pub parted-last : (x : ℕ) (s : List ℕ) → length s ≤ up_to x s → parted x s ≡ s ∷ []
 parted-last x s h = parted-first x s ∙ rw (le-ltb (up_to x s) (length s) h, take_all (up_to x s) s h)
 
 -- the same at a place, where the next x is found at e, or the end is

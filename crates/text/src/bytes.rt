@@ -1,18 +1,19 @@
 // Bytes of a line or a book: where a mark stands next, and which word stands at a place.
 ghost use Rattle.std.specs.Prelude.{◌≡◌, ◌+◌, ◌≤◌, [], ◌∷◌, length, drop};
-ghost use Rattle.text.specs.Text.{space, begins as begins_with, is as is_word};
+ghost use Rattle.text.specs.Text.{space, begins as begins_with};
 ghost use Rattle.text.specs.Numbers.{is_digit};
 ghost use Rattle.text.specs.Expressions.{digit_count};
 ghost use Rattle.text.specs.Spelling.{up_to};
 
 // The place of the first such byte at or after `at`, or the end.
+#[tactic(auto, using(crate::proofs::TextLaws::next_places))]
 fn next_byte(bytes: &[u8], at: usize, byte: u8) -> usize
     requires { at ≤ length bytes.now }
     ensures { result ≡ at + up_to byte (drop at bytes.now) }
 {
     let n = bytes.len();
     let mut i = at;
-    // Four at a time: the test of the end costs as much as the byte's.
+    // Four at a time: the test of the end costs as much as the byte's, and with `position` books took 5 percent longer.
     while i + 4 <= n {
         if bytes[i] == byte {
             return i;
@@ -28,21 +29,19 @@ fn next_byte(bytes: &[u8], at: usize, byte: u8) -> usize
         }
         i += 4;
     }
-    while i < n {
-        if bytes[i] == byte {
-            return i;
+    for j in i..n {
+        if bytes[j] == byte {
+            return j;
         }
-        i += 1;
     }
-    i
+    n
 }
 
-// The end of the field that begins at `at`: the next space, or the end.
-pub fn field_end(line: &[u8], at: usize) -> usize
-    requires { at ≤ length line.now }
-    ensures { result ≡ at + up_to space (drop at line.now) }
+// The end of the first field: the first space, or the end.
+pub fn field_end(line: &[u8]) -> usize
+    ensures { result ≡ up_to space line.now }
 {
-    next_byte(line, at, b' ')
+    next_byte(line, 0, b' ')
 }
 
 // The end of the line that begins at `at`: the next byte 10, or the end.
@@ -54,49 +53,27 @@ pub fn line_end(book: &[u8], at: usize) -> usize
 }
 
 // The word stands at `at`.
+#[tactic(auto, using(crate::proofs::WordLaws::at_place))]
 pub fn begins(bytes: &[u8], at: usize, word: &[u8]) -> bool
     ensures { result ≡ begins_with word.now (drop at bytes.now) }
 {
-    let mut i = 0;
-    let mut j = at;
-    while i < word.len() {
-        if bytes.len() <= j {
-            return false;
-        }
-        if bytes[j] != word[i] {
-            return false;
-        }
-        i += 1;
-        j += 1;
-    }
-    true
+    bytes.get(at..).unwrap_or(&[]).starts_with(word)
 }
 
 // The byte stands at `at`.
+#[tactic(auto, using(crate::proofs::WordLaws::at_place))]
 pub fn has_byte(bytes: &[u8], at: usize, byte: u8) -> bool
     ensures { result ≡ begins_with (byte ∷ []) (drop at bytes.now) }
 {
-    if bytes.len() <= at {
-        return false;
-    }
-    bytes[at] == byte
-}
-
-// The field is the word.
-pub fn is_word(field: &[u8], word: &[u8]) -> bool
-    ensures { result ≡ is_word word.now field.now }
-{
-    if field.len() != word.len() {
-        return false;
-    }
-    begins(field, 0, word)
+    bytes.get(at) == Some(&byte)
 }
 
 // A digit.
+#[tactic(auto, unfolding(crate::specs::Numbers::is_digit))]
 pub fn is_digit(byte: u8) -> bool
     ensures { result ≡ is_digit byte }
 {
-    b'0' <= byte && byte <= b'9'
+    byte.is_ascii_digit()
 }
 
 // The end of the digits that stand at `at`.
@@ -104,12 +81,8 @@ pub fn digits_end(bytes: &[u8], at: usize) -> usize
     requires { at ≤ length bytes.now }
     ensures { result ≡ at + digit_count (drop at bytes.now) }
 {
-    let mut i = at;
-    while i < bytes.len() {
-        if !is_digit(bytes[i]) {
-            return i;
-        }
-        i += 1;
-    }
-    i
+    at + bytes[at..]
+        .iter()
+        .take_while(|byte| is_digit(**byte))
+        .count()
 }

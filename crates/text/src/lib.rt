@@ -9,5 +9,5 @@ mod lines;
 mod numbers;
 
 pub use bytes::line_end;
-pub use expressions::{CODE_COUNT, MAX_CODE, POLICY_CODE, Parsed, read_expression};
-pub use lines::{Line, LineRead, read_line};
+pub use expressions::{CODE_COUNT, Code, Codes, read_expression};
+pub use lines::{Line, read_line};

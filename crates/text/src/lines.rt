@@ -1,11 +1,12 @@
 // One line of a book, by its fields.
-ghost use Rattle.std.specs.Prelude.{[], ◌∷◌};
+ghost use Rattle.std.specs.Prelude.{◌≡◌, [], ◌∷◌, MatchOption};
+ghost use Rattle.text.specs.Text.{fields};
 ghost use Rattle.text.specs.Forms.{form_of, form};
-ghost use Rattle.text.specs.LineMeaning.{Means, MeansAnywhere, FourMean};
+ghost use Rattle.text.specs.LineMeaning.{FirstField, Means, MeansAnywhere, FourMean};
 
-use super::bytes::{field_end, is_word};
-use super::keywords::{OperatorRead, SenseRead, read_operator, read_sense};
-use super::numbers::{NaturalRead, NumberRead, read_natural, read_number};
+use super::bytes::field_end;
+use super::keywords::{read_operator, read_sense};
+use super::numbers::{read_natural, read_number};
 
 // What a line says. A condition's expression is not read yet: it stands from the place `from` to the line's end.
 #[derive(Clone, Copy)]
@@ -33,120 +34,96 @@ pub enum Line {
     OldZero,
 }
 
-// A line's form, if it has one.
-#[derive(Clone, Copy)]
-pub enum LineRead {
-    Good(Line),
-    NoForm,
-}
-
 // `o`.
-fn one_field(kind: &[u8]) -> LineRead
+#[tactic(auto, using(crate::proofs::WordLaws::words), unfolding(crate::specs::Forms::form_of))]
+fn one_field(kind: &[u8]) -> Option<Line>
     ensures { MeansAnywhere result (form_of (kind.now ∷ [])) }
 {
-    if !is_word(kind, b"o") {
-        return LineRead::NoForm;
+    match kind {
+        b"o" => Some(Line::OldZero),
+        _ => None,
     }
-    LineRead::Good(Line::OldZero)
 }
 
 // `p OP`.
-fn two_fields(kind: &[u8], second: &[u8]) -> LineRead
+#[tactic(auto, using(crate::proofs::WordLaws::words), unfolding(crate::specs::Forms::form_of))]
+fn two_fields(kind: &[u8], second: &[u8]) -> Option<Line>
     ensures { MeansAnywhere result (form_of (kind.now ∷ second.now ∷ [])) }
 {
-    if !is_word(kind, b"p") {
-        return LineRead::NoForm;
+    match kind {
+        b"p" => Some(Line::BarePolicy {
+            operator: read_operator(second)?,
+        }),
+        _ => None,
     }
-    let OperatorRead::Is(operator) = read_operator(second) else {
-        return LineRead::NoForm;
-    };
-    LineRead::Good(Line::BarePolicy { operator })
 }
 
 // `p OP D`, `r S V`, or `x A B`.
-fn three_fields(kind: &[u8], second: &[u8], third: &[u8]) -> LineRead
+#[tactic(auto, using(crate::proofs::WordLaws::words), unfolding(crate::specs::Forms::form_of))]
+fn three_fields(kind: &[u8], second: &[u8], third: &[u8]) -> Option<Line>
     ensures { MeansAnywhere result (form_of (kind.now ∷ second.now ∷ third.now ∷ [])) }
 {
-    if is_word(kind, b"p") {
-        let OperatorRead::Is(operator) = read_operator(second) else {
-            return LineRead::NoForm;
-        };
-        let NumberRead::Number(default) = read_number(third) else {
-            return LineRead::NoForm;
-        };
-        return LineRead::Good(Line::Policy { operator, default });
+    match kind {
+        b"p" => Some(Line::Policy {
+            operator: read_operator(second)?,
+            default: read_number(third)?,
+        }),
+        b"r" => Some(Line::Rule {
+            signal: read_natural(second)?,
+            score: read_number(third)?,
+        }),
+        b"x" => Some(Line::Exclusion {
+            first: read_natural(second)?,
+            second: read_natural(third)?,
+        }),
+        _ => None,
     }
-    if is_word(kind, b"r") {
-        let NaturalRead::Natural(signal) = read_natural(second) else {
-            return LineRead::NoForm;
-        };
-        let NumberRead::Number(score) = read_number(third) else {
-            return LineRead::NoForm;
-        };
-        return LineRead::Good(Line::Rule { signal, score });
-    }
-    if is_word(kind, b"x") {
-        let NaturalRead::Natural(first) = read_natural(second) else {
-            return LineRead::NoForm;
-        };
-        let NaturalRead::Natural(other) = read_natural(third) else {
-            return LineRead::NoForm;
-        };
-        return LineRead::Good(Line::Exclusion {
-            first: first,
-            second: other,
-        });
-    }
-    LineRead::NoForm
 }
 
 // `c T < E`, or `c T >= E`, where E is what stands from `from` on: after these three fields and a space after each.
-fn four_fields(kind: &[u8], second: &[u8], third: &[u8], from: usize) -> LineRead
+#[tactic(auto, using(crate::proofs::FieldLaws::read_fields), unfolding(crate::specs::Forms::form_of))]
+fn four_fields(kind: &[u8], second: &[u8], third: &[u8], from: usize) -> Option<Line>
     ensures { FourMean kind.now second.now third.now from result }
 {
-    if !is_word(kind, b"c") {
-        return LineRead::NoForm;
+    match kind {
+        b"c" => Some(Line::Condition {
+            threshold: read_number(second)?,
+            sense: read_sense(third)?,
+            from,
+        }),
+        _ => None,
     }
-    let NumberRead::Number(threshold) = read_number(second) else {
-        return LineRead::NoForm;
-    };
-    let SenseRead::Is(sense) = read_sense(third) else {
-        return LineRead::NoForm;
-    };
-    LineRead::Good(Line::Condition {
-        sense,
-        threshold,
-        from,
-    })
+}
+
+// The first field, and what stands after its space; nothing where there is no space.
+#[tactic(auto, using(crate::proofs::FieldLaws::first_fields))]
+fn first_field(line: &[u8]) -> Option<(&[u8], &[u8])>
+    ensures { MatchOption result (fields line.now ≡ line.now ∷ []) (λ p. FirstField line.now p.0.now p.1.now) }
+{
+    let end = field_end(line);
+    if end == line.len() {
+        None
+    } else {
+        Some((&line[..end], &line[end + 1..]))
+    }
 }
 
 // A line without its end, by how many fields it has. A condition's expression begins after six bytes at least, which
 // bounds how many codes it can have.
-pub fn read_line(line: &[u8]) -> LineRead
+pub fn read_line(line: &[u8]) -> Option<Line>
     ensures { Means line.now result (form line.now) }
 {
-    let n = line.len();
-    let kind_end = field_end(line, 0);
-    if kind_end == n {
+    let Some((kind, from_second)) = first_field(line) else {
         return one_field(line);
+    };
+    let Some((second, from_third)) = first_field(from_second) else {
+        return two_fields(kind, from_second);
+    };
+    let Some((third, rest)) = first_field(from_third) else {
+        return three_fields(kind, second, from_third);
+    };
+    match first_field(rest) {
+        None => four_fields(kind, second, third, line.len() - rest.len()),
+        Some(_) => None,
     }
-    let kind = &line[..kind_end];
-    let second_from = kind_end + 1;
-    let second_end = field_end(line, second_from);
-    let second = &line[second_from..second_end];
-    if second_end == n {
-        return two_fields(kind, second);
-    }
-    let third_from = second_end + 1;
-    let third_end = field_end(line, third_from);
-    let third = &line[third_from..third_end];
-    if third_end == n {
-        return three_fields(kind, second, third);
-    }
-    let from = third_end + 1;
-    let end = field_end(line, from);
-    if end == n {
-        return four_fields(kind, second, third, from);
-    }
-    LineRead::NoForm
 }

@@ -1,88 +1,51 @@
 // Fields that are numbers.
 ghost use Rattle.std.specs.Prelude.{◌≡◌};
+ghost use Rattle.arith.specs.Options.{told};
 ghost use Rattle.text.specs.Numbers.{no_leading_zero, natural, number};
-ghost use Rattle.text.specs.Spelling.{natural_meaning, number_meaning};
 
 use super::bytes::is_digit;
 
 // The most digits that a number may have.
 const MOST_DIGITS: usize = 6;
 
-// A field as a number without a sign.
-#[derive(Clone, Copy)]
-pub enum NaturalRead {
-    Natural(u32),
-    NotANatural,
-}
-
-// A field as a number.
-#[derive(Clone, Copy)]
-pub enum NumberRead {
-    Number(i32),
-    NotANumber,
-}
-
-// A byte has room in 32 bits.
-fn wide(byte: u8) -> u32
-    ensures { result ≡ byte }
-{
-    byte as u32
-}
-
 // 0 stands first only where it is the only digit.
+#[tactic(auto, using(std::proofs::lemmas::Bool::Decides::nat_tests, crate::proofs::NumberLaws::lead_is))]
 fn no_leading_zero(field: &[u8]) -> bool
     ensures { result ≡ no_leading_zero field.now }
 {
-    if field.len() < 2 {
-        return true;
-    }
-    field[0] != b'0'
+    !matches!(field, [b'0', _, ..])
 }
 
 // One to six digits, no leading zero.
-pub fn read_natural(field: &[u8]) -> NaturalRead
-    ensures { natural_meaning result ≡ natural field.now }
+#[tactic(auto, using(crate::proofs::NumberLaws::digits), unfolding(crate::specs::Numbers::natural))]
+pub fn read_natural(field: &[u8]) -> Option<u32>
+    ensures { told result ≡ natural field.now }
 {
-    if field.len() == 0 {
-        return NaturalRead::NotANatural;
+    if field.is_empty() || MOST_DIGITS < field.len() || !no_leading_zero(field) {
+        return None;
     }
-    if MOST_DIGITS < field.len() {
-        return NaturalRead::NotANatural;
-    }
-    if !no_leading_zero(field) {
-        return NaturalRead::NotANatural;
-    }
-    let mut value: u32 = 0;
-    let mut i = 0;
-    while i < field.len() {
-        let byte = field[i];
-        if !is_digit(byte) {
-            return NaturalRead::NotANatural;
+    let mut value = 0;
+    for byte in field {
+        if !is_digit(*byte) {
+            return None;
         }
-        value = value * 10 + wide(byte - b'0');
-        i += 1;
+        value = value * 10 + u32::from(*byte - b'0');
     }
-    NaturalRead::Natural(value)
+    Some(value)
 }
 
 // An optional `-`, then a number without a sign; no -0.
-pub fn read_number(field: &[u8]) -> NumberRead
-    ensures { number_meaning result ≡ number field.now }
+#[tactic(auto, using(crate::proofs::NumberLaws::numbers), unfolding(crate::specs::Numbers::negated))]
+pub fn read_number(field: &[u8]) -> Option<i32>
+    ensures { told result ≡ number field.now }
 {
-    if field.len() == 0 {
-        return NumberRead::NotANumber;
-    }
-    if field[0] != b'-' {
-        let NaturalRead::Natural(value) = read_natural(field) else {
-            return NumberRead::NotANumber;
-        };
-        return NumberRead::Number(value as i32);
-    }
-    let NaturalRead::Natural(size) = read_natural(&field[1..]) else {
-        return NumberRead::NotANumber;
+    let [b'-', digits @ ..] = field else {
+        return Some(read_natural(field)? as i32);
     };
+    let size = read_natural(digits)?;
     if size == 0 {
-        return NumberRead::NotANumber;
+        None
+    } else {
+        Some(-(size as i32))
     }
-    NumberRead::Number(0 - size as i32)
 }

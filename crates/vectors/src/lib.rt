@@ -1,52 +1,38 @@
 // Reading vectors from lines of text, for the program of cases.
 #![tactic(auto)]
 
-ghost use Rattle.std.specs.Prelude.{◌≤◌, length};
+ghost use Rattle.std.specs.Prelude.{◌≡◌, ◌≢◌, ◌≤◌, ◌∷◌, ◌++◌, length, take, IfSome, IfNone, Contains};
 
-// The largest number of a vector.
-const LARGEST: u32 = 4294967295;
+use arrayvec::ArrayVec;
 
 // How many signal sets there are.
 pub const SETS: usize = 65536;
 
-// A number in a line, and the index after the byte that ends it.
+// A number that a text begins with, and what follows the byte that ends it.
 #[derive(Clone, Copy)]
-struct Number {
+struct Number<'a> {
     value: u32,
-    next: usize,
+    rest: &'a [u8],
 }
 
-// `value` with one more digit; what is over the largest number is cut to that.
-fn with_digit(value: u32, digit: u8) -> u32 {
-    let more = value as u64 * 10 + digit as u64;
-    if more > LARGEST as u64 {
-        return LARGEST;
-    }
-    more as u32
-}
-
-// The number that begins at index `at`, and goes on to the first byte that is no digit.
-fn number_at(line: &[u8], at: usize) -> Number
-    requires { at ≤ length line.now }
-    ensures { result.next ≤ length line.now }
+// The number that a text begins with, which goes on to the first byte that is no digit; what is over the largest number of
+// 32 bits is cut to that.
+fn number_at(text: &[u8]) -> Number
+    ensures { length result.rest.now ≤ length text.now }
 {
     let mut value = 0u32;
-    let mut i = at;
-    while i < line.len() {
-        let b = line[i];
-        if b < b'0' || b > b'9' {
+    for (i, byte) in text.iter().enumerate() {
+        if !byte.is_ascii_digit() {
             return Number {
-                value: value,
-                next: i + 1,
+                value,
+                rest: &text[i + 1..],
             };
         }
-        value = with_digit(value, b - b'0');
-        i += 1;
+        value = value
+            .saturating_mul(10)
+            .saturating_add((*byte - b'0') as u32);
     }
-    Number {
-        value: value,
-        next: i,
-    }
+    Number { value, rest: &[] }
 }
 
 // The signal set that a number of a vector gives.
@@ -54,88 +40,69 @@ pub fn signal_set(number: u32) -> u16 {
     (number as usize % SETS) as u16
 }
 
-// What a vector asks of a book: a condition and one number more, and where the book begins.
+// What a vector asks of a book: a condition and one number more, and the book.
 #[derive(Clone, Copy)]
-pub struct BookVector {
+pub struct BookVector<'a> {
     pub condition: u32,
     pub number: u32,
-    pub start: usize,
+    pub book: &'a [u8],
 }
 
 // The vector in the text after a command.
 pub fn book_vector(text: &[u8]) -> BookVector
-    ensures { result.start ≤ length text.now }
+    ensures { length result.book.now ≤ length text.now }
 {
-    let condition = number_at(text, 0);
-    let middle = condition.next;
-    let number = number_at(text, middle);
+    let condition = number_at(text);
+    let number = number_at(condition.rest);
     BookVector {
         condition: condition.value,
         number: number.value,
-        start: number.next,
+        book: number.rest,
     }
 }
 
-// The index after the word that the line begins with, or 0 if it begins otherwise.
-pub fn after_word(line: &[u8], word: &[u8]) -> usize
-    ensures { result ≤ length line.now }
+// What follows the word that the line begins with, if it does.
+pub fn after_word<'a>(line: &'a [u8], word: &[u8]) -> Option<&'a [u8]>
+    ensures follows { IfSome result (λ rest. line.now ≡ word.now ++ rest.now) }
+    ensures none { IfNone result (take (length word.now) line.now ≢ word.now) }
 {
-    if line.len() < word.len() {
-        return 0;
+    if line.starts_with(word) {
+        Some(&line[word.len()..])
+    } else {
+        None
     }
-    let mut i = 0;
-    while i < word.len() {
-        if line[i] != word[i] {
-            return 0;
-        }
-        i += 1;
-    }
-    i
 }
 
-// Puts the numbers of a text, each after one space, into the words as far as there is room, and tells how many.
-pub fn put_numbers(text: &[u8], words: &mut [u32]) -> usize
-    ensures { result ≤ length words.old }
-{
-    let mut at = after_word(text, b" ");
-    let mut count = 0;
-    while count < words.len() {
-        if at == text.len() {
-            return count;
-        }
-        let number = number_at(text, at);
-        words[count] = number.value;
-        at = number.next;
-        count += 1;
-    }
-    count
-}
+// At most so many numbers are taken of a text.
+pub const ROOM: usize = 512;
 
-// The byte of a book for a byte of a vector.
-fn book_byte(b: u8) -> u8 {
-    if b == b'|' { b'\n' } else { b }
+// The numbers of a text, each after one space, as far as there is room.
+pub fn numbers(text: &[u8]) -> ArrayVec<u32, ROOM> {
+    let mut numbers = ArrayVec::new();
+    let mut rest = after_word(text, b" ").unwrap_or(text);
+    while !rest.is_empty() && !numbers.is_full() {
+        let number = number_at(rest);
+        numbers.push(number.value);
+        rest = number.rest;
+    }
+    numbers
 }
 
 // Puts a line end wherever `|` stands.
 pub fn put_line_ends(text: &mut [u8]) {
-    let mut i = 0;
-    while i < text.len() {
-        text[i] = book_byte(text[i]);
-        i += 1;
+    for byte in text {
+        if *byte == b'|' {
+            *byte = b'\n';
+        }
     }
 }
 
-// The index of the first such byte from index `at` on, or the length.
-pub fn index_of(text: &[u8], at: usize, byte: u8) -> usize
-    requires { at ≤ length text.now }
-    ensures { (at ≤ result) × (result ≤ length text.now) }
+// The texts before and after the first such byte, if there is one.
+pub fn parted(text: &[u8], byte: u8) -> Option<(&[u8], &[u8])>
+    ensures parts { IfSome result (λ parts. text.now ≡ (parts.0).now ++ byte ∷ (parts.1).now) }
+    ensures first { IfSome result (λ parts. ¬ Contains (parts.0).now byte) }
+    ensures none { IfNone result (¬ Contains text.now byte) }
 {
-    let mut i = at;
-    while i < text.len() {
-        if text[i] == byte {
-            return i;
-        }
-        i += 1;
-    }
-    i
+    let at = text.iter().position(|other| *other == byte)?;
+    Some((&text[..at], &text[at + 1..]))
 }

@@ -1,33 +1,26 @@
 -- `agreement::compile_and_read`: compiling's refusal passed up, or the rod's answer on the first words.
-use mathlib.Core.Path.{◌∙◌}
+use mathlib.Core.Path.{refl, ◌∙◌}
 use native.Mathlib.Omega.{arith}
-use Rattle.answers.proofs.Results.{in-arm}
-use Rattle.compiler.specs.Meaning.{compiled_meaning}
+use Rattle.std.proofs.lemmas.Result.{err_from_is_err_and}
 use Rattle.compiler.proofs.CompiledLaws.{returned-from}
 use Rattle.agreement.proofs.Readings.{reading-by, reading-of}
 use Rattle.agreement.proofs.compile_and_read.Goals as goal
 
-pub read_compiled-by_listing-requires : goal.read_compiled-by_listing-requires
-read_compiled-by_listing-requires c = omega (arith, (returned-from c.compile-compiled.ensures c.in-Records.is).room)
+pub read_compiled-requires : goal.read_compiled-requires
+read_compiled-requires c = omega (arith, (returned-from c.in_ok-compiled.ensures refl).room)
 
-pub returns-in-Records : goal.returns-in-Records
-returns-in-Records c =
-    let left = c.compile-compiled.ensures.leaving in
+pub returns : goal.returns
+returns c =
+    let ran = c.in_ok-compiled.ensures in
     record {
-      result_value = c.read_compiled-by_listing.ensures ∙ reading-of _ _ _ _ _ (in-arm compiled_meaning c.compile-compiled.ensures.returning c.in-Records.is) left;
-      words_after = left;
+      result_value = c.read_compiled.ensures ∙ reading-of _ _ _ _ _ ran.returning ran.leaving;
+      words_after = ran.leaving;
     }
 
-pub returns-in-Declined : goal.returns-in-Declined
-returns-in-Declined c =
+pub returns-in_err-compiled : goal.returns-in_err-compiled
+returns-in_err-compiled c =
+    let p = err_from_is_err_and c.from_residual.result c.from_residual.ensures.1 in
     record {
-      result_value = reading-by _ _ _ _ _ (in-arm compiled_meaning c.compile-compiled.ensures.returning c.in-Declined.is);
-      words_after = c.compile-compiled.ensures.leaving;
-    }
-
-pub returns-in-NoRoom : goal.returns-in-NoRoom
-returns-in-NoRoom c =
-    record {
-      result_value = reading-by _ _ _ _ _ (in-arm compiled_meaning c.compile-compiled.ensures.returning c.in-NoRoom.is);
-      words_after = c.compile-compiled.ensures.leaving;
+      result_value = rw (p.1, p.2) (reading-by _ _ _ _ _ c.in_err-compiled.ensures.returning);
+      words_after = c.in_err-compiled.ensures.leaving;
     }

@@ -5,10 +5,10 @@ use Rattle.blocks.proofs.BlockLaws.{overlap-more, overlap-done}
 use Rattle.blocks.proofs.low_overlap.Goals as goal
 
 pub loop-signal-init : goal.loop-signal-init
-loop-signal-init c = (omega arith, λ j h. present-none j)
+loop-signal-init c j h = present-none j
 
 pub loop-signal-preserved : goal.loop-signal-preserved
-loop-signal-preserved c = (omega (arith, c.loop-signal-test.true), overlap-more _ _ _ _ c.sharing-word.ensures c.loop-signal.invariant.1)
+loop-signal-preserved c = overlap-more _ _ _ _ c.sharing-word.ensures c.loop-signal.invariant
 
 pub returns : goal.returns
-returns c = let l = c.loop-signal in overlap-done _ _ l.signal c.requires (omega (arith, l.invariant.0, c.loop-signal-test.false)) l.invariant.1
+returns c = let l = c.loop-signal in overlap-done _ _ l.signal c.requires (omega arith) l.invariant

@@ -1,5 +1,4 @@
 -- `blocks::low_overlap`: the signals before the next are told.
-use Prim.Native.Nat.{◌-◌, ◌≤◌}
 use mathlib.Core.Bool.{◌&&◌}
 use Rattle.arith.specs.Lists.{exists, below}
 use Rattle.signals.specs.Sets.{present}
@@ -7,7 +6,4 @@ use Rattle.blocks.specs.Blocks.{WordOf}
 use Rattle.blocks.proofs.low_overlap.Given as goal
 
 abbrev pub invariant-loop-signal : goal.invariant-loop-signal
-invariant-loop-signal l = (l.signal ≤ 6) × WordOf (λ j. exists (λ s. present l.low s && present j s) (below l.signal)) l.word
-
-abbrev pub decreases-loop-signal : goal.decreases-loop-signal
-decreases-loop-signal l = 6 - l.signal
+invariant-loop-signal l = WordOf (λ j. exists (λ s. present l.low s && present j s) (below l.signal)) l.word

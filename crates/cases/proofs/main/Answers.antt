@@ -4,5 +4,5 @@ use mathlib.Core.Path.{sym}
 use lib.ListN.{length-replicate}
 use Rattle.cases.proofs.main.Goals as goal
 
-pub slice_bounds-run_lines-end : goal.slice_bounds-run_lines-end
-slice_bounds-run_lines-end c = sym (length-replicate {0} {A = ℕ} 823808 0)
+pub slice_bounds-run_lines-end-2 : goal.slice_bounds-run_lines-end-2
+slice_bounds-run_lines-end-2 c = sym (length-replicate {0} {A = ℕ} 823808 0)

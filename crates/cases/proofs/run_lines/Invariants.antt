@@ -1,4 +1,4 @@
--- `cases::run_lines`: each turn takes a line.
+-- `cases::run_lines`: each turn takes a line, and text and space stay as large.
 use Rattle.std.proofs.Common.{length, ◌-◌, ◌≡◌}
 use Rattle.cases.proofs.run_lines.Given as goal
 

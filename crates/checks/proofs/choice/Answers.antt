@@ -1,14 +1,9 @@
--- `checks::choice`: each answer by the verdict on the words.
-use mathlib.Core.Path.{sym, ap, ◌∙◌}
-use Rattle.layout.specs.Meaning.{verdict_meaning}
+-- `checks::choice`: the listing's refusal, or the choice check of a sound listing.
+use Rattle.std.proofs.lemmas.Result.{err_from_is_err_and}
 use Rattle.checks.proofs.Answers.{choice-declined}
 use Rattle.checks.proofs.choice.Goals as goal
 
-pub sound_choice-requires : goal.sound_choice-requires
-sound_choice-requires c = sym c.check-verdict.ensures ∙ ap verdict_meaning c.in-Sound.is
-
-pub returns-in-Sound : goal.returns-in-Sound
-returns-in-Sound c = c.sound_choice.ensures
-
-pub returns-in-Declined : goal.returns-in-Declined
-returns-in-Declined c = choice-declined _ _ _ (sym c.check-verdict.ensures ∙ ap verdict_meaning c.in-Declined.is)
+pub returns-in_err-listing : goal.returns-in_err-listing
+returns-in_err-listing c =
+    let p = err_from_is_err_and c.from_residual.result c.from_residual.ensures.1 in
+    rw (p.1, p.2) (choice-declined _ _ _ c.in_err-listing.ensures)

@@ -1,5 +1,5 @@
 -- `checks::permitted_up_to`: the sets of the blocks before this one are counted.
-use Prim.Native.Nat.{ℕ, ◌+◌, ◌-◌, ◌*◌, ◌/◌, ◌≤◌}
+use Prim.Native.Nat.{ℕ, ◌+◌, ◌*◌, ◌≤◌}
 use mathlib.Core.Bool.{Bool, not}
 use mathlib.Core.Path.{◌≡◌}
 use Rattle.arith.specs.Lists.{count_below}
@@ -7,8 +7,5 @@ use Rattle.groups.specs.Groups.{GroupOf}
 use Rattle.checks.proofs.permitted_up_to.Given as goal
 
 abbrev pub invariant-loop-k : goal.invariant-loop-k
-invariant-loop-k l = (l.k ≤ l.last / 64) × (l.count ≤ 64 * l.k)
+invariant-loop-k l = (l.count ≤ 64 * l.k)
     × ((test : ℕ → Bool) (group : ℕ) → GroupOf (λ set. not (test set)) group l.barred → count_below (1024 * group + 64 * l.k) test ≡ count_below (1024 * group) test + l.count)
-
-abbrev pub decreases-loop-k : goal.decreases-loop-k
-decreases-loop-k l = l.last / 64 - l.k

@@ -1,35 +1,28 @@
 -- `exports::cerahupo_check`: what the check tells, packed.
-use Prim.Native.Nat.{◌≤◌}
 use mathlib.Core.Path.{ap, ◌∙◌}
 use native.Mathlib.Omega.{arith}
-use Rattle.answers.proofs.Results.{in-arm}
-use Rattle.book.specs.Meaning.{checked_meaning}
 use Rattle.exports.specs.Packing.{packed, counts_value}
 use Rattle.exports.proofs.Refusals.{in_table}
 use Rattle.exports.proofs.BookRefusals.{checking}
 use Rattle.exports.proofs.Results.{counts-small}
-use Rattle.exports.proofs.cerahupo_check.Goals.{In-Accepted}
 use Rattle.exports.proofs.cerahupo_check.Goals as goal
 
-small : (c : In-Accepted) → (c.in-Accepted.policies ≤ 16) × (c.in-Accepted.conditions ≤ 8)
-small c = counts-small _ _ (in-arm checked_meaning c.check-answer.ensures c.in-Accepted.is)
+pub overflow_mul-counts : goal.overflow_mul-counts
+overflow_mul-counts c = omega (arith, counts-small _ _ c.in-Ok.ensures)
 
-pub overflow_mul-value : goal.overflow_mul-value
-overflow_mul-value c = let h = small c in omega arith
-
-pub overflow_add-value : goal.overflow_add-value
-overflow_add-value c = let h = small c in omega arith
+pub overflow_add-counts : goal.overflow_add-counts
+overflow_add-counts c = omega (arith, counts-small _ _ c.in-Ok.ensures)
 
 pub accepted-requires : goal.accepted-requires
-accepted-requires c = let h = small c in omega arith
+accepted-requires c = omega (arith, counts-small _ _ c.in-Ok.ensures)
 
-pub refused_book-requires : goal.refused_book-requires
-refused_book-requires c = omega (arith, in_table (checking _) (in-arm checked_meaning c.check-answer.ensures c.in-Refused.is))
+pub refusal-requires : goal.refusal-requires
+refusal-requires c = omega (arith, in_table (checking _) c.in-Err.ensures)
 
-pub returns-in-Accepted : goal.returns-in-Accepted
+pub returns-in-Ok : goal.returns-in-Ok
 unfolding packed counts_value
-returns-in-Accepted c = c.accepted.ensures ∙ ap (packed counts_value) (in-arm checked_meaning c.check-answer.ensures c.in-Accepted.is)
+returns-in-Ok c = c.accepted.ensures ∙ ap (packed counts_value) c.in-Ok.ensures
 
-pub returns-in-Refused : goal.returns-in-Refused
+pub returns-in-Err : goal.returns-in-Err
 unfolding packed
-returns-in-Refused c = c.refused_book.ensures ∙ ap (packed counts_value) (in-arm checked_meaning c.check-answer.ensures c.in-Refused.is)
+returns-in-Err c = c.refusal.ensures ∙ ap (packed counts_value) c.in-Err.ensures

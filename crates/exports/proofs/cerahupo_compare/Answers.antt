@@ -2,40 +2,50 @@
 use Prim.Native.Nat.{ℕ, ◌+◌}
 use mathlib.Core.Path.{◌≡◌, ap, ◌∙◌}
 use native.Mathlib.Omega.{arith}
-use Rattle.answers.proofs.Results.{in-arm}
-use Rattle.checks.specs.Meaning.{comparison_meaning}
 use Rattle.exports.specs.Packing.{second_higher, as_one, of_second, packed_comparison}
 use Rattle.exports.proofs.ListingRefusals.{first-in-table, second-in-table}
 use Rattle.exports.proofs.cerahupo_compare.Goals as goal
 
-second : (r number value : ℕ) → r ≡ as_one number value → r + second_higher ≡ as_one (of_second number) value
-second r number value e = omega arith
+pub refusal-requires : goal.refusal-requires
+refusal-requires c =
+    let told = rw c.in-First-listing.is at c.in-Err.ensures in
+    omega (arith, c.well_formed, first-in-table _ _ told)
 
-pub refused_listing-requires : goal.refused_listing-requires
-refused_listing-requires c = omega (arith, c.well_formed, first-in-table _ _ (in-arm comparison_meaning c.compare-answer.ensures c.in-FirstDeclined.is))
+pub refusal-requires-in-Second-listing : goal.refusal-requires-in-Second-listing
+refusal-requires-in-Second-listing c =
+    let told = rw c.in-Second-listing.is at c.in-Err.ensures in
+    omega (arith, c.well_formed, second-in-table _ _ told)
 
-pub refused_listing-packed-requires : goal.refused_listing-packed-requires
-refused_listing-packed-requires c = omega (arith, c.well_formed, second-in-table _ _ (in-arm comparison_meaning c.compare-answer.ensures c.in-SecondDeclined.is))
-
-pub overflow_add-result : goal.overflow_add-result
-overflow_add-result c = omega (arith, c.refused_listing-packed.ensures, c.well_formed, second-in-table _ _ (in-arm comparison_meaning c.compare-answer.ensures c.in-SecondDeclined.is))
-
-pub returns-in-Alike : goal.returns-in-Alike
+pub returns-in-Ok-Alike : goal.returns-in-Ok-Alike
 unfolding packed_comparison
-returns-in-Alike c = c.accepted.ensures ∙ ap packed_comparison (in-arm comparison_meaning c.compare-answer.ensures c.in-Alike.is)
+returns-in-Ok-Alike c =
+    let told = rw c.in-Ok-Alike.field-0-is at c.in-Ok-Alike.ensures in
+    c.accepted.ensures ∙ ap packed_comparison told
 
-pub returns-in-FirstYes : goal.returns-in-FirstYes
+pub returns-in-First : goal.returns-in-First
 unfolding packed_comparison
-returns-in-FirstYes c = c.accepted_difference.ensures ∙ ap packed_comparison (in-arm comparison_meaning c.compare-answer.ensures c.in-FirstYes.is)
+returns-in-First c =
+    let told = rw (c.in-Ok-Differ.field-0-is, c.in-First.is) at c.in-Ok-Differ.ensures in
+    c.accepted-in-First.ensures ∙ ap packed_comparison told
 
-pub returns-in-SecondYes : goal.returns-in-SecondYes
+pub returns-in-Second : goal.returns-in-Second
 unfolding packed_comparison
-returns-in-SecondYes c = c.accepted_difference-in-SecondYes.ensures ∙ ap packed_comparison (in-arm comparison_meaning c.compare-answer.ensures c.in-SecondYes.is)
+returns-in-Second c =
+    let told = rw (c.in-Ok-Differ.field-0-is, c.in-Second.is) at c.in-Ok-Differ.ensures in
+    c.accepted-in-Second.ensures ∙ ap packed_comparison told
 
-pub returns-in-FirstDeclined : goal.returns-in-FirstDeclined
+pub returns-in-First-listing : goal.returns-in-First-listing
 unfolding packed_comparison
-returns-in-FirstDeclined c = c.refused_listing.ensures ∙ ap packed_comparison (in-arm comparison_meaning c.compare-answer.ensures c.in-FirstDeclined.is)
+returns-in-First-listing c =
+    let told = rw c.in-First-listing.is at c.in-Err.ensures in
+    c.refusal.ensures ∙ ap packed_comparison told
 
-pub returns-in-SecondDeclined : goal.returns-in-SecondDeclined
+-- the code is higher
+second-told : (r number value : ℕ) → r ≡ as_one number value → r + second_higher ≡ as_one (of_second number) value
+second-told r number value e = omega arith
+
+pub returns-in-Second-listing : goal.returns-in-Second-listing
 unfolding packed_comparison
-returns-in-SecondDeclined c = second _ _ _ c.refused_listing-packed.ensures ∙ ap packed_comparison (in-arm comparison_meaning c.compare-answer.ensures c.in-SecondDeclined.is)
+returns-in-Second-listing c =
+    let told = rw c.in-Second-listing.is at c.in-Err.ensures in
+    second-told _ _ _ c.refusal-in-Second-listing.ensures ∙ ap packed_comparison told

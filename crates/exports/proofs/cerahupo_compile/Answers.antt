@@ -1,8 +1,6 @@
 -- `exports::cerahupo_compile`: what compiling returns, packed, and the words as it left them.
-use mathlib.Core.Path.{ap, ◌∙◌}
+use mathlib.Core.Path.{refl, ap, ◌∙◌}
 use native.Mathlib.Omega.{arith}
-use Rattle.answers.proofs.Results.{in-arm}
-use Rattle.compiler.specs.Meaning.{compiled_meaning}
 use Rattle.compiler.proofs.CompiledLaws.{returned-from}
 use Rattle.exports.specs.Packing.{packed, itself}
 use Rattle.exports.proofs.Refusals.{in_table}
@@ -10,24 +8,15 @@ use Rattle.exports.proofs.BookRefusals.{compiling}
 use Rattle.exports.proofs.cerahupo_compile.Goals as goal
 
 pub accepted-requires : goal.accepted-requires
-accepted-requires c =
-    omega (arith, c.well_formed, (returned-from c.compile-answer.ensures c.in-Records.is).room)
+accepted-requires c = omega (arith, c.well_formed, (returned-from c.in-Ok.ensures refl).room)
 
-pub declined-requires : goal.declined-requires
-declined-requires c =
-    omega (arith, in_table (compiling _ _ _) (in-arm compiled_meaning c.compile-answer.ensures.returning c.in-Declined.is))
+pub refusal-requires : goal.refusal-requires
+refusal-requires c = omega (arith, in_table (compiling _ _ _) c.in-Err.ensures.returning)
 
-pub returns-in-Records : goal.returns-in-Records
+pub returns-in-Ok : goal.returns-in-Ok
 unfolding packed
-returns-in-Records c =
-    record { packing = c.accepted.ensures ∙ ap (packed itself) (in-arm compiled_meaning c.compile-answer.ensures.returning c.in-Records.is); leaving = c.compile-answer.ensures.leaving }
+returns-in-Ok c = record { packing = c.accepted.ensures ∙ ap (packed itself) c.in-Ok.ensures.returning; leaving = c.in-Ok.ensures.leaving }
 
-pub returns-in-Declined : goal.returns-in-Declined
+pub returns-in-Err : goal.returns-in-Err
 unfolding packed
-returns-in-Declined c =
-    record { packing = c.declined.ensures ∙ ap (packed itself) (in-arm compiled_meaning c.compile-answer.ensures.returning c.in-Declined.is); leaving = c.compile-answer.ensures.leaving }
-
-pub returns-in-NoRoom : goal.returns-in-NoRoom
-unfolding packed
-returns-in-NoRoom c =
-    record { packing = c.refused.ensures ∙ ap (packed itself) (in-arm compiled_meaning c.compile-answer.ensures.returning c.in-NoRoom.is); leaving = c.compile-answer.ensures.leaving }
+returns-in-Err c = record { packing = c.refusal.ensures ∙ ap (packed itself) c.in-Err.ensures.returning; leaving = c.in-Err.ensures.leaving }

@@ -1,80 +1,56 @@
 -- `groups::gather_fours`: the masks of the records before the next four are in the table.
 use Prim.Native.Nat.{ℕ, ◌+◌, ◌-◌, ◌*◌, ◌/◌, ◌%◌, ◌≤◌, ◌<◌}
 use mathlib.Core.List.{List}
-use mathlib.Core.Path.{◌≡◌, refl, subst}
+use mathlib.Core.Path.{◌≡◌, refl}
 use native.Mathlib.Omega.{arith}
-use lib.ListN.{length, get_or}
-use Rattle.groups.specs.Groups.{IsGroup, MasksAt, SetAndGroup}
-use Rattle.groups.proofs.GatheredLaws.{Gathering, gathered_none, mask-small, gathered-at, gathered-all}
+use lib.ListN.{get_or}
+use Rattle.groups.specs.Groups.{IsGroup, MasksAt, SetAndGroup, Added}
+use Rattle.groups.proofs.GatheredLaws.{Gathering, mask-small, gathered-at, gathered-all}
 use Rattle.groups.proofs.gather_fours.Goals as goal
 
-whole : (n : ℕ) → n ≡ n * 4 / 4
-whole n = omega arith
+-- four records are left at this turn
+room : (from end turn : ℕ) → turn < (end - from) / 4 → from + turn * 4 + 4 ≤ end
+room from end turn h = omega arith
 
--- four records are left, within the words
-room : (ws : List ℕ) (end place : ℕ) → (end * 4 - place) % 16 ≡ 0 → MasksAt ws (place / 4) end → place < end * 4
-    → (place + 16 ≤ end * 4) × (end ≤ length ws / 4)
-room ws end place e m h = (omega arith, m.within)
-
--- the word `on` places further is a mask, and a signal set
-mask-on : (ws : List ℕ) (end place group : ℕ) → IsGroup group → place % 4 ≡ 0 → (end * 4 - place) % 16 ≡ 0 → MasksAt ws (place / 4) end → place < end * 4
-    → (on : ℕ) → on % 4 ≡ 1 → on < 16 → SetAndGroup (get_or ws (place + on) 0) group
-mask-on ws end place group g z e m t on o h =
+-- the word so many words further is a mask, and a signal set
+mask-on : (ws : List ℕ) (from end group turn : ℕ) → IsGroup group → MasksAt ws (from + turn * 4) end → turn < (end - from) / 4
+    → (word : ℕ) → word % 4 ≡ 1 → word < 16 → SetAndGroup (get_or ws (from * 4 + turn * 16 + word) 0) group
+mask-on ws from end group turn g m t word w h =
     record {
-      set = mask-small _ _ _ m _ (omega (arith, z, o)) (omega arith) (omega (arith, room ws end place e m t, h));
+      set = mask-small _ _ _ m _ (omega (arith, w)) (omega (arith, w)) (omega (arith, room from end turn t, h));
       within = g;
     }
 
-pub overflow_mul-place : goal.overflow_mul-place
-overflow_mul-place c = let m = c.requires.can_gather.masks in omega (arith, m.ordered, m.within)
-
-pub loop-place-init : goal.loop-place-init
-loop-place-init c =
-    let p = c.requires.can_gather in (
-      omega arith,
-      omega (arith, p.masks.ordered),
-      omega (arith, p.masks.ordered, c.requires.from_value),
-      subst (Gathering _ _ _ _ _ _) (whole _) (gathered_none _ _ _ _ _ p.room p.masks),
-    )
-
-pub overflow_mul-end : goal.overflow_mul-end
-overflow_mul-end c = omega (arith, c.requires.can_gather.masks.within)
+-- the masks of the next four records
+gathered-four : (ws : List ℕ) (from end group turn : ℕ) {table left : List ℕ} → Gathering ws from end group table left (from + turn * 4) → turn < (end - from) / 4
+    → {one two three four : List ℕ} → Added (get_or ws (from * 4 + turn * 16 + 1) 0) group left one → Added (get_or ws (from * 4 + turn * 16 + 5) 0) group one two
+    → Added (get_or ws (from * 4 + turn * 16 + 9) 0) group two three → Added (get_or ws (from * 4 + turn * 16 + 13) 0) group three four
+    → Gathering ws from end group table four (from + (turn + 1) * 4)
+gathered-four ws from end group turn g t a b c d =
+    let r = room from end turn t in
+    gathered-at _ _ _ _ _ _ _
+    (gathered-at _ _ _ _ _ _ _
+    (gathered-at _ _ _ _ _ _ _
+    (gathered-at _ _ _ _ _ _ _ g (omega (arith, r)) _ (omega arith) _ a _ refl)
+    (omega (arith, r)) _ (omega arith) _ b _ refl)
+    (omega (arith, r)) _ (omega arith) _ c _ refl)
+    (omega (arith, r)) _ (omega arith) _ d _ (omega arith)
 
 pub add_mask-requires : goal.add_mask-requires
-add_mask-requires c =
-    let i = c.loop-place.invariant in
-    record { table = i.3.room; set_and_group = mask-on _ _ _ _ c.requires.can_gather.within i.0 i.2 i.3.more c.loop-place-test.true 1 refl (omega arith) }
+add_mask-requires c = mask-on _ _ _ _ _ c.requires.can_gather.within c.loop-turn.invariant.more (omega arith) _ refl (omega arith)
 
-pub add_mask-requires-in-loop-place : goal.add_mask-requires-in-loop-place
-add_mask-requires-in-loop-place c =
-    let i = c.loop-place.invariant in
-    record { table = c.add_mask.ensures.room; set_and_group = mask-on _ _ _ _ c.requires.can_gather.within i.0 i.2 i.3.more c.loop-place-test.true 5 refl (omega arith) }
+pub add_mask-requires-in-loop-turn : goal.add_mask-requires-in-loop-turn
+add_mask-requires-in-loop-turn c = mask-on _ _ _ _ _ c.requires.can_gather.within c.loop-turn.invariant.more (omega arith) _ refl (omega arith)
 
-pub add_mask-requires-in-loop-place-2 : goal.add_mask-requires-in-loop-place-2
-add_mask-requires-in-loop-place-2 c =
-    let i = c.loop-place.invariant in
-    record { table = c.add_mask-in-loop-place.ensures.room; set_and_group = mask-on _ _ _ _ c.requires.can_gather.within i.0 i.2 i.3.more c.loop-place-test.true 9 refl (omega arith) }
+pub add_mask-requires-in-loop-turn-2 : goal.add_mask-requires-in-loop-turn-2
+add_mask-requires-in-loop-turn-2 c = mask-on _ _ _ _ _ c.requires.can_gather.within c.loop-turn.invariant.more (omega arith) _ refl (omega arith)
 
-pub add_mask-requires-in-loop-place-3 : goal.add_mask-requires-in-loop-place-3
-add_mask-requires-in-loop-place-3 c =
-    let i = c.loop-place.invariant in
-    record { table = c.add_mask-in-loop-place-2.ensures.room; set_and_group = mask-on _ _ _ _ c.requires.can_gather.within i.0 i.2 i.3.more c.loop-place-test.true 13 refl (omega arith) }
+pub add_mask-requires-in-loop-turn-3 : goal.add_mask-requires-in-loop-turn-3
+add_mask-requires-in-loop-turn-3 c = mask-on _ _ _ _ _ c.requires.can_gather.within c.loop-turn.invariant.more (omega arith) _ refl (omega arith)
 
-pub loop-place-preserved : goal.loop-place-preserved
-loop-place-preserved c =
-    let i = c.loop-place.invariant in
-    let r = room _ _ _ i.2 i.3.more c.loop-place-test.true in (
-      omega (arith, i.0),
-      omega (arith, r),
-      omega (arith, r, i.2),
-      gathered-at _ _ _ _ _ _ _
-          (gathered-at _ _ _ _ _ _ _
-          (gathered-at _ _ _ _ _ _ _
-          (gathered-at _ _ _ _ _ _ _ i.3 (omega (arith, r)) _ (omega (arith, i.0)) _ c.add_mask.ensures _ refl)
-          (omega (arith, r)) _ (omega (arith, i.0)) _ c.add_mask-in-loop-place.ensures _ refl)
-          (omega (arith, r)) _ (omega (arith, i.0)) _ c.add_mask-in-loop-place-2.ensures _ refl)
-          (omega (arith, r)) _ (omega (arith, i.0)) _ c.add_mask-in-loop-place-3.ensures _ (omega (arith, i.0)),
-    )
+pub loop-turn-preserved : goal.loop-turn-preserved
+loop-turn-preserved c =
+    gathered-four _ _ _ _ _ c.loop-turn.invariant (omega arith) c.add_mask.ensures c.add_mask-in-loop-turn.ensures c.add_mask-in-loop-turn-2.ensures c.add_mask-in-loop-turn-3.ensures
 
 pub returns : goal.returns
-returns c = let i = c.loop-place.invariant in gathered-all i.3 (omega (arith, c.loop-place-test.false))
+returns c = gathered-all c.loop-turn.invariant (omega (arith, c.requires.from_value, c.loop-turn.auto, c.loop-turn-test.false))

@@ -3,16 +3,10 @@ use Prim.Native.Nat.{◌/◌, ◌%◌}
 use mathlib.Core.Bool.{Bool, ◌||◌}
 use mathlib.Core.Path.{sym, ap, ◌∙◌}
 use native.Mathlib.Omega.{arith}
-use borrow.Author.Tests.{eq-eqb, ne_eqb}
+use borrow.Author.Tests.{ne_eqb}
 use Rattle.signals.specs.Sets.{overlap}
 use Rattle.signals.proofs.SetLaws.{overlap-and}
 use Rattle.groups.proofs.is_even.Goals as goal
-
-pub returns-then-mask-eq0 : goal.returns-then-mask-eq0
-returns-then-mask-eq0 c =
-    let s = c.args in
-    let e = eq-eqb (s.mask / 64 % 16) 0 c.if-mask-eq0.true in
-    e ∙ sym (ap (λ (t : Bool). t || overlap (s.mask / 1024) s.group) e)
 
 pub returns-else-mask-eq0 : goal.returns-else-mask-eq0
 returns-else-mask-eq0 c =

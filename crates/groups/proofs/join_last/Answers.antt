@@ -1,20 +1,11 @@
 -- `groups::join_last`: the words before the next are joined.
 use native.Mathlib.Omega.{arith}
-use Rattle.arith.proofs.Tables.{written_none, written-more, written_all}
-use Rattle.groups.proofs.Words.{joined-here}
+use Rattle.groups.proofs.Words.{joining-more, joining-all}
 use Rattle.groups.proofs.join_last.Goals as goal
-
-pub loop-k-init : goal.loop-k-init
-loop-k-init c = (omega arith, written_none _ _ _)
 
 pub loop-k-preserved : goal.loop-k-preserved
 loop-k-preserved c =
-    let t = c.before.before.before in
-    let p = t.requires in
-    let w = t.loop-k.invariant.1 in (
-      omega (arith, t.loop-k-test.true),
-      written-more _ _ _ _ _ w (omega (arith, p.room, p.least, p.most, t.loop-k-test.true)) (λ k l e. omega arith) _ (joined-here _ _ _ _ _ w _ c.join_words-word.ensures),
-    )
+    joining-more _ _ _ _ _ c.requires.room (omega arith) c.loop-k.invariant (omega arith) _ (omega arith) _ c.join_words.ensures
 
-pub returns : goal.returns
-returns c = let l = c.loop-k in written_all _ _ _ 16 l.k _ (omega (arith, l.invariant.0, c.loop-k-test.false)) l.invariant.1
+pub returns-clause-joined : goal.returns-clause-joined
+returns-clause-joined c = joining-all _ _ _ _ _ c.requires.room (omega arith) c.loop-k.invariant (omega arith)

@@ -8,25 +8,17 @@ use Rattle.groups.proofs.pair_count.Goals as goal
 
 pub loop-i-init : goal.loop-i-init
 unfolding records_from
-loop-i-init c = (omega arith, omega arith)
+loop-i-init c = omega arith
 
 pub returns-then-words-i-ne-EXCLUSION : goal.returns-then-words-i-ne-EXCLUSION
 returns-then-words-i-ne-EXCLUSION c =
-    let l = c.before.before in
-    let at = l.loop-i in
-    let ws = l.args.words.now in
-    omega (arith, at.invariant.1, ap length (no-pair-here ws at.i (omega (arith, l.loop-i-test.true)) c.if-words-i-ne-EXCLUSION.true))
+    let at = c.loop-i in
+    omega (arith, at.invariant, ap length (no-pair-here c.args.words.now at.i (omega arith) (omega arith)))
 
 pub loop-i-preserved : goal.loop-i-preserved
 loop-i-preserved c =
-    let l = c.before.before in
-    let at = l.loop-i in
-    let ws = l.args.words.now in (
-      omega (arith, l.loop-i-test.true),
-      omega (arith, at.invariant.1, ap length (pair-here ws at.i (omega (arith, l.loop-i-test.true)) c.if-words-i-ne-EXCLUSION.false)),
-    )
+    let at = c.loop-i in
+    omega (arith, at.invariant, ap length (pair-here c.args.words.now at.i (omega arith) (omega arith)))
 
 pub returns : goal.returns
-returns c =
-    let at = c.loop-i in
-    omega (arith, at.invariant.1, ap length (no-pair-left c.args.words.now at.i c.loop-i-test.false))
+returns c = let at = c.loop-i in omega (arith, at.invariant, ap length (no-pair-left c.args.words.now at.i (omega arith)))

@@ -4,4 +4,4 @@ use Rattle.compiler.proofs.CompiledLaws.{returned-from}
 use Rattle.listing.proofs.list_condition.Goals as goal
 
 pub print_listing-requires : goal.print_listing-requires
-print_listing-requires g c = omega (arith, (returned-from c.compile-answer.ensures c.in-Records.is).room)
+print_listing-requires g c = omega (arith, (returned-from c.compile.ensures c.in-Ok.is).room)

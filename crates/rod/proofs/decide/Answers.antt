@@ -1,20 +1,13 @@
--- `rod::decide`: each answer by the verdict on the words.
-use mathlib.Core.Path.{sym, ap, ◌∙◌}
-use Rattle.layout.specs.Meaning.{verdict_meaning}
+-- `rod::decide`: the listing's refusal, or what a sound listing says.
+use mathlib.Core.Path.{sym}
+use Rattle.std.proofs.lemmas.Result.{err_from_is_err_and}
 use Rattle.rod.proofs.Steps.{answers, declines}
 use Rattle.rod.proofs.decide.Goals as goal
 
-pub reading-requires : goal.reading-requires
-reading-requires c = sym c.check-verdict.ensures ∙ ap verdict_meaning c.in-Sound.is
+pub returns-in_err-check : goal.returns-in_err-check
+returns-in_err-check c =
+    let p = err_from_is_err_and c.from_residual.result c.from_residual.ensures.1 in
+    rw (p.1, p.2) (declines _ _ _ _ (sym c.in_err-check.ensures))
 
-pub returns-then-reading : goal.returns-then-reading
-returns-then-reading c =
-    answers _ _ (sym c.check-verdict.ensures ∙ ap verdict_meaning c.in-Sound.is) _ (sym c.if-reading.true ∙ c.reading.ensures)
-
-pub returns-else-reading : goal.returns-else-reading
-returns-else-reading c =
-    answers _ _ (sym c.check-verdict.ensures ∙ ap verdict_meaning c.in-Sound.is) _ (sym c.if-reading.false ∙ c.reading.ensures)
-
-pub returns-in-Declined : goal.returns-in-Declined
-returns-in-Declined c =
-    declines _ _ _ _ (sym c.check-verdict.ensures ∙ ap verdict_meaning c.in-Declined.is)
+pub returns : goal.returns
+returns c = answers _ _ (sym c.in_ok-check.ensures) _ c.reading.ensures

@@ -3,9 +3,6 @@ use native.Mathlib.Omega.{arith}
 use Rattle.rod.proofs.Lines.{value-quiet, value-turned, value-plain}
 use Rattle.rod.proofs.policy_value.Goals as goal
 
-pub some_line-found-requires : goal.some_line-found-requires
-some_line-found-requires c = c.requires.lines_to
-
 pub returns-then-turned : goal.returns-then-turned
 returns-then-turned c = value-turned _ _ (omega arith) c.if-mask-set-ne0.true c.if-turned.true _ c.some_line-found.ensures
 

@@ -9,9 +9,6 @@ use Rattle.rod.specs.Values.{mask_at}
 use Rattle.rod.proofs.Lines.{Walk, walk_here, walk-found, walk-on, walk_end}
 use Rattle.rod.proofs.some_line.Goals as goal
 
-pub loop-i-init : goal.loop-i-init
-loop-i-init c = record { left = c.requires; same = refl }
-
 -- ---- four lines
 
 -- one line, two, and three of a turn are passed
@@ -75,9 +72,6 @@ returns-then-is_inside-4 c =
     _ c.is_inside-in-loop-i-2.ensures c.if-is_inside-3.false in
     walk-found p (omega (arith, c.loop-i-test.true)) _ c.is_inside-in-loop-i-3.ensures c.if-is_inside-4.true
 
-pub loop-i-smaller : goal.loop-i-smaller
-loop-i-smaller c = omega (arith, c.loop-i-test.true)
-
 pub loop-i-preserved : goal.loop-i-preserved
 loop-i-preserved c =
     let p = passed-3 c.loop-i.invariant c.loop-i-test.true
@@ -87,26 +81,14 @@ loop-i-preserved c =
 
 -- ---- the rest
 
-pub loop-i-2-init : goal.loop-i-2-init
-loop-i-2-init c = c.loop-i.invariant
-
-pub is_inside-requires-in-loop-i-2-2 : goal.is_inside-requires-in-loop-i-2-2
-is_inside-requires-in-loop-i-2-2 c = let h = walk_here c.loop-i-2.invariant c.loop-i-2-test.true in record { i_in_bounds = h.0; i_bound = h.1 }
+pub is_inside-requires-in-loop-rest : goal.is_inside-requires-in-loop-rest
+is_inside-requires-in-loop-rest c = let h = walk_here c.loop-rest.invariant c.loop-rest-test.true in record { i_in_bounds = h.0; i_bound = h.1 }
 
 pub returns-then-is_inside-5 : goal.returns-then-is_inside-5
-returns-then-is_inside-5 c = walk-found c.loop-i-2.invariant c.loop-i-2-test.true _ c.is_inside-in-loop-i-2-2.ensures c.if-is_inside-5.true
+returns-then-is_inside-5 c = walk-found c.loop-rest.invariant c.loop-rest-test.true _ c.is_inside-in-loop-rest.ensures c.if-is_inside-5.true
 
-pub loop-i-2-preserved : goal.loop-i-2-preserved
-loop-i-2-preserved c = walk-on c.loop-i-2.invariant c.loop-i-2-test.true _ c.is_inside-in-loop-i-2-2.ensures c.if-is_inside-5.false _ refl
+pub loop-rest-preserved : goal.loop-rest-preserved
+loop-rest-preserved c = walk-on c.loop-rest.invariant c.loop-rest-test.true _ c.is_inside-in-loop-rest.ensures c.if-is_inside-5.false _ refl
 
 pub returns : goal.returns
-returns c = walk_end c.loop-i-2.invariant c.loop-i-2-test.false
-
-pub overflow_sub-end : goal.overflow_sub-end
-overflow_sub-end c = omega (arith, c.loop-i.invariant.left.run)
-
-pub overflow_add-i-in-loop-i-2-2 : goal.overflow_add-i-in-loop-i-2-2
-overflow_add-i-in-loop-i-2-2 c = omega (arith, c.loop-i-2-test.true)
-
-pub loop-i-2-smaller : goal.loop-i-2-smaller
-loop-i-2-smaller c = omega (arith, c.loop-i-2-test.true)
+returns c = walk_end c.loop-rest.invariant c.loop-rest-test.false

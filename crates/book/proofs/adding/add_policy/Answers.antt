@@ -1,34 +1,39 @@
 -- `book::adding::add_policy`: by the verdict.
-use Prim.Native.Nat.{◌<◌}
-use mathlib.Core.Path.{◌∙◌}
-use native.Mathlib.Omega.{arith}
+use Rattle.std.proofs.Common.{◌≡◌, ℕ}
+use Rattle.std.proofs.lemmas.Result.{err_from_is_err_and}
+use Rattle.std.proofs.Math.Option.{some}
 use mir.Syntax.{w32}
 use mir.ValLaws.{to_z-of_z}
+use Rattle.answers.specs.Answers.{result}
 use Rattle.text.specs.Forms.{policy}
+use Rattle.book.specs.Acceptance.{default_of, in_range, book_with, accept}
+use Rattle.book.specs.SoFar.{so_far_of}
 use Rattle.book.specs.Judged.{with_line}
-use Rattle.book.proofs.SoFarLaws.{policies-is}
-use Rattle.book.proofs.AddingLaws.{step-refused, step_added, judged-as, some-default, policy-room, policy-left, policy-cells}
+use Rattle.book.proofs.RangeLaws.{new-in-range}
+use Rattle.book.proofs.AddingLaws.{fine-passed, fine-bounded}
 use Rattle.book.proofs.adding.add_policy.Goals as goal
-use Rattle.book.proofs.adding.add_policy.Goals.{In_default}
+use Rattle.book.proofs.adding.add_policy.Goals.{In_ok-judge_policy}
 
-pub returns-in-Refused : goal.returns-in-Refused
-returns-in-Refused c = λ n so d h z g. step-refused n _ _ _ (judged-as so (policy _ d) _ _ c.in-Refused.is (c.judge_policy.ensures so _ d h.left g) n)
+pub returns-in_err-judge_policy : goal.returns-in_err-judge_policy
+returns-in_err-judge_policy c =
+    let p = err_from_is_err_and c.from_residual.result c.from_residual.ensures.1 in
+    rw (p.1, p.2, ← to_z-of_z w32 c.args.default c.ranges.default) (c.in_err-judge_policy.ensures c.args.operator c.args.state)
 
--- the verdict is fine for some default too, and so there is room
-room : (c : In_default) → c.args.state.policies < 16
-room c =
-    let (so, h) = c.requires in
-    let (d, g) = some-default c.args.ranged in
-    omega (arith, policies-is so h.left, policy-room so c.args.operator d (judged-as so (policy _ d) _ _ c.in_default.is (c.judge_policy.ensures so _ d h.left g)))
+-- the verdict is fine
+fine : (c : In_ok-judge_policy) (n : ℕ)
+    → result (with_line (so_far_of c.args.book.now c.args.state) (policy c.args.operator (some c.args.default)))
+    ≡ accept n (so_far_of c.args.book.now c.args.state) (policy c.args.operator (some c.args.default))
+fine c = rw (to_z-of_z w32 c.args.default c.ranges.default) at (c.in_ok-judge_policy.ensures c.args.operator c.args.state)
 
-pub put_policy-requires : goal.put_policy-requires
-put_policy-requires c = room (goal.at.put_policy-requires c).In_default
+pub new-requires : goal.new-requires
+unfolding in_range default_of
+new-requires c =
+    let f = fine (goal.at.new-requires c).In_ok-judge_policy in
+    rw (to_z-of_z w32 c.args.default c.ranges.default)
+    (new-in-range c.args.state.old_zero c.args.operator (some c.args.default) (fine-passed _ (policy _ _) f).range)
 
-pub overflow_add-result : goal.overflow_add-result
-overflow_add-result c = omega (arith, room (goal.at.overflow_add-result c).In_default)
-
-pub returns : goal.returns
-returns c =
-    λ n so d h z g.
-    step_added n _ (with_line so (policy _ d)) _ _ (judged-as so (policy _ d) _ _ c.in_default.is (c.judge_policy.ensures so _ d h.left g) n) (policy-left so h.left _ d)
-    (policy-cells _ so _ d _ (to_z-of_z w32 c.args.default c.ranges.default ∙ z) (c.put_policy.ensures so.book h.held h.bounded.range (policies-is so h.left)))
+pub push_policy-requires : goal.push_policy-requires
+unfolding with_line book_with default_of
+push_policy-requires c =
+    let f = fine (goal.at.push_policy-requires c).In_ok-judge_policy in
+    rw (c.new.ensures, to_z-of_z w32 c.args.default c.ranges.default) (fine-bounded _ (policy _ _) f c.requires tt).range

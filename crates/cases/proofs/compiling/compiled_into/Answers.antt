@@ -3,8 +3,8 @@ use native.Mathlib.Omega.{arith}
 use Rattle.compiler.proofs.CompiledLaws.{returned-from}
 use Rattle.cases.proofs.compiling.compiled_into.Goals as goal
 
-pub overflow_mul-end : goal.overflow_mul-end
-overflow_mul-end c = omega (arith, (returned-from c.compile-answer.ensures c.in-Records.is).room)
+pub returns-in-Ok : goal.returns-in-Ok
+returns-in-Ok c = omega (arith, (returned-from c.compile-answer.ensures c.in-Ok.is).room)
 
-pub returns : goal.returns
-returns c = omega (arith, (returned-from c.compile-answer.ensures c.in-Records.is).room)
+pub overflow_mul-end : goal.overflow_mul-end
+overflow_mul-end c = omega (arith, (returned-from c.compile-answer.ensures c.in-Ok.is).room)

@@ -2,29 +2,20 @@
 use Prim.Native.Nat.{◌<◌}
 use mathlib.Core.List.{[], ◌∷◌}
 use native.Mathlib.Omega.{arith}
+use Rattle.signals.specs.Sets.{set_of}
 use Rattle.signals.proofs.SetOfLaws.{set_below}
-use Rattle.book.proofs.CellLaws.{kept-exclusion}
-use Rattle.compiler.proofs.PairLaws.{two-bits}
+use Rattle.translation.specs.Translation.{pair_mask}
+use Rattle.compiler.proofs.PairLaws.{pair-small}
 use Rattle.compiler.proofs.exclusions.pair_mask.Goals as goal
-
-pub bit-requires : goal.bit-requires
-bit-requires c = let k = c.requires.0 in omega (arith, c.first_at-first.ensures k.exclusions k.held, (kept-exclusion k c.args.i c.requires.1).first)
-
-pub bit-requires-2 : goal.bit-requires-2
-bit-requires-2 c = let k = c.requires.0 in omega (arith, c.second_at-second.ensures k.exclusions k.held, (kept-exclusion k c.args.i c.requires.1).second)
 
 pub overflow_add-result : goal.overflow_add-result
 overflow_add-result c =
-    let k = c.requires.0 in
-    let first_small : c.first_at-first.result < 16 = omega (arith, c.first_at-first.ensures k.exclusions k.held, (kept-exclusion k c.args.i c.requires.1).first) in
-    let second_small : c.second_at-second.result < 16 = omega (arith, c.second_at-second.ensures k.exclusions k.held, (kept-exclusion k c.args.i c.requires.1).second) in
-    omega (
-      arith,
-      c.bit-2.ensures,
-      c.bit.ensures,
-      set_below 16 (c.first_at-first.result ∷ []) (first_small, tt) (tt, tt),
-      set_below 16 (c.second_at-second.result ∷ []) (second_small, tt) (tt, tt),
-    )
+    let x = c.args.exclusion in
+    let small = pair-small x c.requires in
+    let first : x.first < 16 = omega (arith, small) in
+    let second : x.second < 16 = omega (arith, small) in
+    omega (arith, set_below 16 (x.first ∷ []) (first, tt) (tt, tt), set_below 16 (x.second ∷ []) (second, tt) (tt, tt))
 
 pub returns : goal.returns
-returns c = λ xs h. two-bits _ (c.first_at-first.ensures xs h) (c.second_at-second.ensures xs h) c.bit.ensures c.bit-2.ensures
+unfolding pair_mask set_of
+returns c = omega (arith, c.bit.ensures, c.bit-2.ensures)

@@ -1,21 +1,21 @@
--- `compiler::nodes::join_kind`: a sense and a code at a time.
+-- `compiler::nodes::join_kind`: a code and a sense at a time.
 use Rattle.layout.specs.Records.{join_kind}
 use Rattle.translation.specs.Translation.{join_of}
-use Rattle.compiler.proofs.MentionLaws.{is-larger, is-smaller}
+use Rattle.compiler.proofs.CodedNodes.{is-larger, is-smaller}
 use Rattle.compiler.proofs.nodes.join_kind.Goals as goal
 
-pub returns-then-code-eq-MAX_CODE : goal.returns-then-code-eq-MAX_CODE
+pub returns-in-Above : goal.returns-in-Above
 unfolding join_kind join_of
-returns-then-code-eq-MAX_CODE c = λ m e. rw (c.in-Above.is, is-larger m e c.if-code-eq-MAX_CODE.true)
+returns-in-Above c m e = rw (c.in-Above.is, is-larger m e c.in-Max.is)
 
-pub returns-else-code-eq-MAX_CODE : goal.returns-else-code-eq-MAX_CODE
+pub returns-in-AtMost : goal.returns-in-AtMost
 unfolding join_kind join_of
-returns-else-code-eq-MAX_CODE c = λ m e. rw (c.in-Above.is, is-smaller m e c.if-code-eq-MAX_CODE.false)
+returns-in-AtMost c m e = rw (c.in-AtMost.is, is-larger m e c.in-Max.is)
 
-pub returns-then-code-eq-MAX_CODE-2 : goal.returns-then-code-eq-MAX_CODE-2
+pub returns-in-Above-sense : goal.returns-in-Above-sense
 unfolding join_kind join_of
-returns-then-code-eq-MAX_CODE-2 c = λ m e. rw (c.in-AtMost.is, is-larger m e c.if-code-eq-MAX_CODE-2.true)
+returns-in-Above-sense c m e = rw (c.in-Above-sense.is, is-smaller m e c.in_default.not-Max)
 
-pub returns-else-code-eq-MAX_CODE-2 : goal.returns-else-code-eq-MAX_CODE-2
+pub returns-in-AtMost-sense : goal.returns-in-AtMost-sense
 unfolding join_kind join_of
-returns-else-code-eq-MAX_CODE-2 c = λ m e. rw (c.in-AtMost.is, is-smaller m e c.if-code-eq-MAX_CODE-2.false)
+returns-in-AtMost-sense c m e = rw (c.in-AtMost-sense.is, is-smaller m e c.in_default.not-Max)

@@ -1,32 +1,23 @@
 -- `compiler::nodes::node_lines`: none for a join; the policy's for a mention.
-use Prim.Native.Nat.{◌<◌}
-use mathlib.Core.Path.{sym, ◌∙◌}
-use native.Mathlib.Omega.{arith}
+use mathlib.Core.Path.{sym, ap₂, ◌∙◌}
 use borrow.Author.Rules.{rules}
+use lib.IntN.{ℤ}
+use lib.ListN.{length}
 use mir.Syntax.{w32}
 use mir.ValLaws.{to_z-of_z}
-use Rattle.book.proofs.CellLaws.{condition-held}
-use Rattle.compiler.proofs.KeptNodes.{size, same_size, no_lines, policy-kept, threshold-fits, mention-lines}
+use Rattle.peal.specs.Policies.{Policy}
+use Rattle.compiler.specs.Searching.{lines_of}
+use Rattle.compiler.proofs.CodedNodes.{mention-lines, mention-there, mentioned, no-mention}
 use Rattle.compiler.proofs.nodes.node_lines.Goals as goal
 
-pub returns-then-code-lt-POLICY_CODE : goal.returns-then-code-lt-POLICY_CODE
-returns-then-code-lt-POLICY_CODE c =
-    λ h. sym (no_lines h c.args.i c.code_at-code.result (c.code_at-code.ensures h.condition (condition-held h)) c.if-code-lt-POLICY_CODE.true)
+pub returns-in-Policy : goal.returns-in-Policy
+returns-in-Policy c =
+    let b = c.args.book.now in
+    let d = c.args.condition.now in
+    let p = mentioned b c.in-Policy.k c.policies.ensures.policies (mention-there b c.in-Policy.is c.requires.0) c.index-policies-k.is in
+    c.count_lines.ensures
+    ∙ ap₂ (λ (t : ℤ) (q : Policy). length (lines_of t q)) (to_z-of_z w32 c.threshold.result (search rules) ∙ c.threshold.ensures) p
+    ∙ sym (mention-lines b d c.in-Policy.is)
 
-pub count_lines-requires : goal.count_lines-requires
-count_lines-requires c =
-    let h = c.requires.0 in
-    let t = to_z-of_z w32 c.threshold_at-threshold.result (search rules) ∙ c.threshold_at-threshold.ensures h.condition (condition-held h) in (
-      policy-kept h c.args.i c.code_at-code.result (c.code_at-code.ensures h.condition (condition-held h)) c.if-code-lt-POLICY_CODE.false c.requires.1,
-      threshold-fits h _ t,
-    )
-
-pub returns : goal.returns
-unfolding policy-kept
-returns c =
-    let n = c.code_at-code.result in
-    λ h.
-    let inside : c.args.i < size h = omega (arith, c.requires.1, same_size c.requires.0 h) in
-    let t = to_z-of_z w32 c.threshold_at-threshold.result (search rules) ∙ c.threshold_at-threshold.ensures h.condition (condition-held h) in
-    let code = c.code_at-code.ensures h.condition (condition-held h) in
-    c.count_lines.ensures (policy-kept h c.args.i n code c.if-code-lt-POLICY_CODE.false inside) ∙ sym (mention-lines h c.args.i n code c.if-code-lt-POLICY_CODE.false _ t)
+pub returns-in_default : goal.returns-in_default
+returns-in_default c = sym (no-mention c.args.book.now c.args.condition.now c.args.code c.in_default.not-Policy)

@@ -12,5 +12,5 @@ returns c =
     let a = c.args in
     λ m e.
     c.put_record.ensures
-    ∙ ap (λ (x : ℕ). put_record a.words.now a.at (record { kind = c.join_kind-kind.result; mask = 0; lines = 0; next = x })) c.number_if-next.ensures
-    ∙ ap (λ (x : ℕ). put_record a.words.now a.at (record { kind = x; mask = 0; lines = 0; next = cond a.more (a.at + 1) 0 })) (c.join_kind-kind.ensures m e)
+    ∙ ap (λ (x : ℕ). put_record a.words.now a.at (record { kind = c.join_kind.result; mask = 0; lines = 0; next = x })) c.number_if.ensures
+    ∙ ap (λ (x : ℕ). put_record a.words.now a.at (record { kind = x; mask = 0; lines = 0; next = cond a.more (a.at + 1) 0 })) (c.join_kind.ensures m e)

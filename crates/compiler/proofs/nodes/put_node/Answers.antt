@@ -1,48 +1,39 @@
 -- `compiler::nodes::put_node`: a join's record, or a mention's.
-use Prim.Native.Nat.{◌+◌, ◌<◌}
-use mathlib.Core.Bool.{Bool}
-use mathlib.Core.Path.{sym, ap, ap₂, ◌∙◌}
-use native.Mathlib.Omega.{arith}
-use borrow.Author.Rules.{rules}
-use lib.Dec.{ltb}
-use mir.Syntax.{w32}
-use mir.ValLaws.{to_z-of_z}
+use mathlib.Core.Path.{sym, ap, ◌∙◌}
+use lib.ListN.{length}
+use Rattle.arith.specs.Trees.{value, joining}
 use Rattle.layout.specs.Nodes.{ListedNode}
 use Rattle.layout.specs.Writing.{put_records}
-use Rattle.book.proofs.CellLaws.{condition-held}
-use Rattle.compiler.specs.Nodes.{one_node}
-use Rattle.compiler.proofs.KeptNodes.{size, same_size, join-here, mention-here, policy-kept, lines-kept}
+use Rattle.peal.specs.Policies.{Policy}
+use Rattle.peal.specs.declared.Sense.{Sense}
+use Rattle.translation.specs.Translation.{join_of, listed}
+use Rattle.text.specs.declared.expressions.Code.{Code}
+use Rattle.compiler.specs.Nodes.{coded_node, one_node}
+use Rattle.compiler.specs.Searching.{lines_of}
+use Rattle.compiler.proofs.CodedNodes.{join-coded, mention-lines, mention-there, mentioned}
 use Rattle.compiler.proofs.nodes.put_node.Goals as goal
 
-pub put_policy-requires : goal.put_policy-requires
-put_policy-requires c =
-    let a = c.args in
-    let k = c.requires.0.kept in
-    let code = c.code_at-code.ensures k.0.condition (condition-held k.0) in
-    let t = to_z-of_z w32 c.threshold_at-threshold.result (search rules) ∙ c.threshold_at-threshold.ensures k.0.condition (condition-held k.0) in
-    (lines-kept k.0 a.i c.code_at-code.result code c.if-code-lt-POLICY_CODE.false k.1 _ t a.count (c.requires.0.lines k.0), c.requires.1)
+pub put_policy-requires-clause-counted : goal.put_policy-requires-clause-counted
+put_policy-requires-clause-counted c =
+    let b = c.args.book.now in
+    let d = c.args.condition.now in
+    let p = mentioned b c.in-Policy.k c.policies.ensures.policies (mention-there b c.in-Policy.is c.requires.kept.0) c.index-policies-k.is in
+    c.requires.counted ∙ mention-lines b d c.in-Policy.is ∙ sym (ap (λ (q : Policy). length (lines_of d.threshold q)) p)
 
-pub returns-then-code-lt-POLICY_CODE : goal.returns-then-code-lt-POLICY_CODE
-returns-then-code-lt-POLICY_CODE c =
+pub returns-in-Policy : goal.returns-in-Policy
+returns-in-Policy c =
     let a = c.args in
-    λ h.
-    let code = c.code_at-code.ensures h.condition (condition-held h) in
-    let more = ap (ltb (a.i + 1)) (c.length_at-all.ensures h.condition (condition-held h)) in
-    let m = join-here h a.i c.code_at-code.result code c.if-code-lt-POLICY_CODE.true _ (c.sense_at-sense.ensures h.condition (condition-held h)) in
-    c.put_join.ensures m.0 m.1 ∙ ap₂ (λ (b : Bool) (x : ListedNode). put_records a.words.now a.at (one_node a.at b x)) more (sym m.2)
+    let b = a.book.now in
+    let d = a.condition.now in
+    let p = mentioned b c.in-Policy.k c.policies.ensures.policies (mention-there b c.in-Policy.is c.requires.kept.0) c.index-policies-k.is in
+    c.put_policy.ensures
+    ∙ ap (λ (q : Policy). put_records a.words.now a.at (one_node a.at a.more (value (listed d.sense d.threshold q)))) p
+    ∙ ap (λ (y : Code). put_records a.words.now a.at (one_node a.at a.more (coded_node b d y))) (sym c.in-Policy.is)
 
-pub returns-else-code-lt-POLICY_CODE : goal.returns-else-code-lt-POLICY_CODE
-unfolding lines-kept policy-kept
-returns-else-code-lt-POLICY_CODE c =
+pub returns-in_default : goal.returns-in_default
+returns-in_default c =
     let a = c.args in
-    let n = c.code_at-code.result in
-    let k = c.requires.0.kept in
-    λ h.
-    let inside : a.i < size h = omega (arith, k.1, same_size k.0 h) in
-    let code = c.code_at-code.ensures h.condition (condition-held h) in
-    let more = ap (ltb (a.i + 1)) (c.length_at-all.ensures h.condition (condition-held h)) in
-    let sense = c.sense_at-sense.ensures h.condition (condition-held h) in
-    let t = to_z-of_z w32 c.threshold_at-threshold.result (search rules) ∙ c.threshold_at-threshold.ensures h.condition (condition-held h) in
-    c.put_policy.ensures (lines-kept h a.i n code c.if-code-lt-POLICY_CODE.false inside _ t a.count (c.requires.0.lines h))
-    ∙ ap₂ (λ (b : Bool) (x : ListedNode). put_records a.words.now a.at (one_node a.at b x)) more
-    (sym (mention-here h a.i n code c.if-code-lt-POLICY_CODE.false _ _ sense t))
+    let j = join-coded a.book.now a.condition.now a.code c.in_default.not-Policy in
+    c.put_join.ensures j.0 j.1
+    ∙ ap (λ (s : Sense). put_records a.words.now a.at (one_node a.at a.more (joining (join_of s j.0)))) c.sense.ensures
+    ∙ ap (λ (n : ListedNode). put_records a.words.now a.at (one_node a.at a.more n)) (sym j.2)

@@ -1,154 +1,82 @@
--- `compiler::planning::planned`: the rows up to k are written, with the limit of k rules and the operator over the k rules of lowest rank.
-use Prim.Native.Nat.{ℕ, ◌+◌, ◌-◌, ◌^◌, ◌≤◌, ◌<◌}
-use mathlib.Core.List.{List, [], ◌∷◌}
-use mathlib.Core.Path.{◌≡◌, sym, ap, subst, ◌∙◌}
+-- `compiler::planning::planned`: there are rows for as many rules as were taken, from the lowest rank on.
+use Prim.Native.Nat.{◌-◌, ◌^◌, ◌≤◌}
+use mathlib.Core.List.{List}
+use mathlib.Core.Path.{refl, sym, ap, ap₂, subst, ◌∙◌}
 use native.Mathlib.Omega.{arith}
 use borrow.Author.Rules.{rules}
-use lib.IntN.{ℤ, pos}
+use lib.IntN.{ℤ}
 use lib.ListN.{length, get_or}
 use lib.Signed.{mag}
 use mir.Syntax.{w32, w64}
 use mir.ValLaws.{to_z-of_z}
 use Rattle.arith.proofs.Signed.{wide_back}
-use Rattle.signals.specs.Sets.{set_of}
-use Rattle.peal.specs.Policies.{Policy}
-use Rattle.book.specs.Cells.{stored_policy}
-use Rattle.book.specs.declared.cells.Policy.{Policy as StoredPolicy}
-use Rattle.book.specs.Ranges.{PolicyKept}
-use Rattle.book.proofs.StoredRules.{count-is, operator-is, kept-count}
-use Rattle.ranking.specs.RankOrder.{in_rank_order}
-use Rattle.compiler.specs.Planning.{ThresholdFits, next_rule, RulesInRange, Row}
-use Rattle.compiler.proofs.RankedLaws.{ranked-in-range}
-use Rattle.compiler.proofs.LimitLaws.{limit-small}
-use Rattle.compiler.proofs.RowLaws.{planned-start, more-small, planned-turn}
-use Rattle.compiler.proofs.RestLaws.{next-signal, stored-signal, stored-score}
+use Rattle.peal.specs.Policies.{Rule}
+use Rattle.peal.specs.Standins.{no_rule}
+use Rattle.peal.specs.Combining.{combined_of}
+use Rattle.compiler.specs.Planning.{ThresholdFits, in_rank_order}
+use Rattle.compiler.proofs.RankedLaws.{ranked-length, ranked-in-range}
+use Rattle.compiler.proofs.RowLaws.{PlannedTo, planned-start, signal-small, last-small, more-small, planned-turn, planned-end}
 use Rattle.compiler.proofs.planning.planned.Goals as goal
 
-pub in_rank_order-policy-requires : goal.in_rank_order-policy-requires
-in_rank_order-policy-requires c = let h = c.requires.0 in kept-count c.policy_at.result (h.policy, c.policy_at.ensures h.policy h.held, h.range)
+pub loop-i-init : goal.loop-i-init
+unfolding in_rank_order
+loop-i-init c =
+    planned-start c.operator-operator.ensures (to_z-of_z w64 c.first_limit.result (search rules) ∙ c.first_limit.ensures)
+    (to_z-of_z w64 c.initial.result (search rules) ∙ c.initial.ensures) c.new-rows.ensures c.push.ensures.items
+    (ap (λ (l : List Rule). length l) c.rules-count.ensures.rules ∙ sym (ranked-length c.args.policy.now))
 
--- the policy that is read, with its rules in falling rank
-module _ {cells : List ℤ} {n : ℕ} (h : PolicyKept cells n) (p : StoredPolicy) (ranked : p ≡ stored_policy (in_rank_order h.policy)) where
-  abbrev q : Policy
-  q = in_rank_order h.policy
+-- ---- one rule more
 
-  same : p.operator ≡ q.operator
-  same = operator-is p q ranked
+pub bounds-deref-i : goal.bounds-deref-i
+unfolding in_rank_order
+bounds-deref-i c =
+    omega (arith, ap (λ (l : List Rule). length l) (c.deref.ensures.0 ∙ c.in_rank_order-rules.ensures), c.loop-i.invariant.split, c.loop-i-test.true)
 
-  range : RulesInRange q.operator q.rules
-  range = ranked-in-range h.policy h.range
+pub next_limit-requires : goal.next_limit-requires
+unfolding in_rank_order no_rule
+next_limit-requires c =
+    let range = ranked-in-range c.args.policy.now c.rules-count.ensures.range in
+    let is = ap (λ (l : List Rule). get_or l (c.loop-i.i - 1) no_rule) (c.deref.ensures.0 ∙ c.in_rank_order-rules.ensures) in
+    subst (λ (z : ℤ). mag z ≤ 10 ^ 16) (sym (to_z-of_z w64 c.loop-i.row.limit (search rules)))
+    (last-small c.operator-operator.ensures c.loop-i.invariant c.loop-i-test.true range is (subst ThresholdFits (sym (to_z-of_z w32 c.args.threshold c.ranges.threshold)) c.requires))
 
-  all : p.count ≡ length q.rules
-  all = count-is p q ranked
+pub combined-requires : goal.combined-requires
+unfolding in_rank_order no_rule
+combined-requires c =
+    let range = ranked-in-range c.args.policy.now c.rules-count.ensures.range in
+    let is = ap (λ (l : List Rule). get_or l (c.loop-i.i - 1) no_rule) (c.deref.ensures.0 ∙ c.in_rank_order-rules.ensures) in
+    let score = (get_or c.deref.result.now (c.loop-i.i - 1) no_rule).score in
+    subst (λ (z : ℤ). mag z ≤ 10 ^ 16)
+    (sym (ap₂ (combined_of c.operator-operator.result) (wide_back score (search rules)) (to_z-of_z w64 c.loop-i.row.rest (search rules))))
+    (more-small c.operator-operator.ensures c.loop-i.invariant c.loop-i-test.true range is)
 
-  room : p.count ≤ 16
-  room = omega (arith, all, range.few)
+pub bit-requires : goal.bit-requires
+unfolding in_rank_order no_rule
+bit-requires c =
+    let range = ranked-in-range c.args.policy.now c.rules-count.ensures.range in
+    let is = ap (λ (l : List Rule). get_or l (c.loop-i.i - 1) no_rule) (c.deref.ensures.0 ∙ c.in_rank_order-rules.ensures) in
+    signal-small c.operator-operator.ensures c.loop-i.invariant c.loop-i-test.true range is
 
-  -- row k + 1
-  module _ (k : ℕ) (more : k < p.count) where
-    inside : k < length q.rules
-    inside = omega (arith, all)
+pub push-requires-in-loop-i : goal.push-requires-in-loop-i
+push-requires-in-loop-i c =
+    let range = ranked-in-range c.args.policy.now c.rules-count.ensures.range in
+    (omega arith, omega (arith, c.loop-i.invariant.count, c.loop-i.invariant.split, c.loop-i-test.true, range.few))
 
-    signal-is : get_or p.signals (p.count - (k + 1)) 0 ≡ (next_rule q (k + 1)).signal
-    signal-is = stored-signal p q ranked (k + 1) (omega arith) (omega arith)
-
-    score-is : get_or p.scores (p.count - (k + 1)) (pos 0) ≡ (next_rule q (k + 1)).score
-    score-is = stored-score p q ranked (k + 1) (omega arith) (omega arith)
-
-    signal-small : get_or p.signals (p.count - (k + 1)) 0 < 16
-    signal-small = omega (arith, signal-is, next-signal q (k + 1) (omega arith) (omega (arith, inside)) range)
-
-pub loop-rules-init : goal.loop-rules-init
-loop-rules-init c = (
-  omega arith,
-  λ h.
-      planned-start (same h c.in_rank_order-policy.result (c.in_rank_order-policy.ensures.stored h.policy (c.policy_at.ensures h.policy h.held)))
-      (to_z-of_z w64 c.first_limit-limit.result (search rules) ∙ c.first_limit-limit.ensures) (to_z-of_z w64 c.initial-rest.result (search rules) ∙ c.initial-rest.ensures)
-      c.put_row.ensures,
-)
-
--- ---- a turn
-
-pub offset_bounds-policy-i : goal.offset_bounds-policy-i
-offset_bounds-policy-i c =
-    let h = c.requires.0 in
-    let p = c.in_rank_order-policy.result in
-    omega (arith, room h p (c.in_rank_order-policy.ensures.stored h.policy (c.policy_at.ensures h.policy h.held)))
-
-pub bounds-policy-i : goal.bounds-policy-i
-bounds-policy-i c =
-    let h = c.requires.0 in
-    let p = c.in_rank_order-policy.result in
-    omega (arith, room h p (c.in_rank_order-policy.ensures.stored h.policy (c.policy_at.ensures h.policy h.held)))
-
-pub offset_bounds-policy-i-in-loop-rules : goal.offset_bounds-policy-i-in-loop-rules
-offset_bounds-policy-i-in-loop-rules c =
-    let h = c.requires.0 in
-    let p = c.in_rank_order-policy.result in
-    omega (arith, room h p (c.in_rank_order-policy.ensures.stored h.policy (c.policy_at.ensures h.policy h.held)))
-
-pub bounds-policy-i-in-loop-rules : goal.bounds-policy-i-in-loop-rules
-bounds-policy-i-in-loop-rules c =
-    let h = c.requires.0 in
-    let p = c.in_rank_order-policy.result in
-    omega (arith, room h p (c.in_rank_order-policy.ensures.stored h.policy (c.policy_at.ensures h.policy h.held)))
-
-pub bit-bit-requires : goal.bit-bit-requires
-bit-bit-requires c =
-    let h = c.requires.0 in
-    let p = c.in_rank_order-policy.result in
-    let ranked = c.in_rank_order-policy.ensures.stored h.policy (c.policy_at.ensures h.policy h.held) in
-    omega (arith, signal-small h p ranked c.loop-rules.rules c.loop-rules-test.true)
-
-pub next_limit-limit-requires : goal.next_limit-limit-requires
-next_limit-limit-requires c =
-    let h = c.requires.0 in
-    let p = c.in_rank_order-policy.result in
-    let ranked = c.in_rank_order-policy.ensures.stored h.policy (c.policy_at.ensures h.policy h.held) in
-    let k = c.loop-rules.rules in
-    subst (λ (z : ℤ). mag z ≤ 10 ^ 16) (sym (c.loop-rules.invariant.1 h).limited)
-    (limit-small (q h p ranked).operator _ k (subst ThresholdFits (sym (to_z-of_z w32 c.args.threshold c.ranges.threshold)) c.requires.1)
-    (λ m. omega (arith, inside h p ranked k c.loop-rules-test.true, (range h p ranked).room m)))
-
-pub combined-rest-requires : goal.combined-rest-requires
-combined-rest-requires c =
-    let h = c.requires.0 in
-    let p = c.in_rank_order-policy.result in
-    let ranked = c.in_rank_order-policy.ensures.stored h.policy (c.policy_at.ensures h.policy h.held) in
-    let k = c.loop-rules.rules in
-    more-small (same h p ranked) (c.loop-rules.invariant.1 h) (inside h p ranked k c.loop-rules-test.true)
-    (wide_back (get_or p.scores (p.count - (k + 1)) (pos 0)) (search rules) ∙ score-is h p ranked k c.loop-rules-test.true) (range h p ranked)
-
-pub put_row-requires-in-loop-rules : goal.put_row-requires-in-loop-rules
-put_row-requires-in-loop-rules c =
-    let h = c.requires.0 in
-    let p = c.in_rank_order-policy.result in
-    omega (arith, c.loop-rules-test.true, room h p (c.in_rank_order-policy.ensures.stored h.policy (c.policy_at.ensures h.policy h.held)))
-
-pub loop-rules-preserved : goal.loop-rules-preserved
-loop-rules-preserved c = (
-  omega (arith, c.loop-rules-test.true),
-  λ h.
-      let p = c.in_rank_order-policy.result in
-      let ranked = c.in_rank_order-policy.ensures.stored h.policy (c.policy_at.ensures h.policy h.held) in
-      let k = c.loop-rules.rules in
-      planned-turn (same h p ranked) (c.loop-rules.invariant.1 h) (inside h p ranked k c.loop-rules-test.true)
-      (wide_back (get_or p.scores (p.count - (k + 1)) (pos 0)) (search rules) ∙ score-is h p ranked k c.loop-rules-test.true) (range h p ranked).few
-      (λ t j f. to_z-of_z w64 c.next_limit-limit.result (search rules) ∙ c.next_limit-limit.ensures t j f)
-      (to_z-of_z w64 c.combined-rest.result (search rules) ∙ c.combined-rest.ensures)
-      (to_z-of_z w64 (pos c.bit-bit.result) (search rules) ∙ ap pos (c.bit-bit.ensures ∙ ap (λ (s : ℕ). set_of (s ∷ [])) (signal-is h p ranked k c.loop-rules-test.true)))
-      c.put_row-in-loop-rules.ensures,
-)
+pub loop-i-preserved : goal.loop-i-preserved
+unfolding in_rank_order no_rule
+loop-i-preserved c =
+    let range = ranked-in-range c.args.policy.now c.rules-count.ensures.range in
+    let is = ap (λ (l : List Rule). get_or l (c.loop-i.i - 1) no_rule) (c.deref.ensures.0 ∙ c.in_rank_order-rules.ensures) in
+    let score = wide_back (get_or c.deref.result.now (c.loop-i.i - 1) no_rule).score (search rules) in
+    planned-turn c.operator-operator.ensures c.loop-i.invariant c.loop-i-test.true range is
+    (λ k e. to_z-of_z w64 c.next_limit.result (search rules) ∙ c.next_limit.ensures _ k (to_z-of_z w64 c.loop-i.row.limit (search rules) ∙ e))
+    (to_z-of_z w64 c.combined.result (search rules) ∙ c.combined.ensures
+    ∙ ap₂ (combined_of c.operator-operator.result) score (to_z-of_z w64 c.loop-i.row.rest (search rules)))
+    score c.bit.ensures c.push-in-loop-i.ensures.items
 
 pub returns : goal.returns
-returns c h =
-    let p = c.in_rank_order-policy.result in
-    let ranked = c.in_rank_order-policy.ensures.stored h.policy (c.policy_at.ensures h.policy h.held) in
-    record {
-      range = range h p ranked;
-      fits = c.requires.1;
-      rows =
-          λ k e.
-          subst (λ (t : ℤ). Row c.loop-rules.plan (q h p ranked) t k) (to_z-of_z w32 c.args.threshold c.ranges.threshold)
-          ((c.loop-rules.invariant.1 h).rows k (omega (arith, c.loop-rules-test.false, all h p ranked)));
-    }
+unfolding in_rank_order
+returns c =
+    planned-end c.operator-operator.ensures
+    (subst (λ (t : ℤ). PlannedTo (in_rank_order c.args.policy.now) t c.loop-i.row c.loop-i.rows.items c.loop-i.i) (to_z-of_z w32 c.args.threshold c.ranges.threshold) c.loop-i.invariant)
+    c.loop-i-test.false refl refl (ranked-in-range c.args.policy.now c.rules-count.ensures.range) c.requires

@@ -1,4 +1,4 @@
--- `layout::judging::check`: the judgement from here on is the verdict.
+-- `layout::check`: the judgement from here on is the verdict.
 use Prim.Native.Nat.{◌-◌, ◌/◌, ◌≤◌}
 use mathlib.Core.Path.{◌≡◌}
 use lib.ListN.{length}

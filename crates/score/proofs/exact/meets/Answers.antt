@@ -1,32 +1,14 @@
--- `score::exact::meets`: the threshold as a pair, and the order by sense.
-use mathlib.Core.Path.{ap, sym, subst, ◌∙◌}
-use lib.IntN.{ℤ}
-use Rattle.arith.proofs.Signed.{wide_fits, wide_back}
-use Rattle.peal.specs.Score.{scaled, meets}
-use Rattle.peal.specs.declared.Sense.{Sense}
-use Rattle.score.specs.Pairs.{Is, ordered}
+-- `score::exact::meets`: the threshold without a remainder, and the order by sense.
+use Rattle.std.proofs.Common.{arith}
+use Rattle.std.proofs.lemmas.Int.{to_z-of_z}
+use Rattle.peal.specs.Score.{meets}
+use Rattle.score.proofs.PairLaws.{below, at-most}
 use Rattle.score.proofs.exact.meets.Goals as goal
-use Rattle.score.proofs.exact.meets.Goals.{After-whole-limit}
-
-pub overflow_cast-threshold : goal.overflow_cast-threshold
-overflow_cast-threshold c = wide_fits c.args.threshold c.ranges.threshold
-
--- the threshold, in parts
-is-threshold : (c : After-whole-limit) → Is c.whole-limit.result (scaled c.args.threshold)
-is-threshold c = subst (λ (z : ℤ). Is c.whole-limit.result (scaled z)) (wide_back c.args.threshold c.ranges.threshold) c.whole-limit.ensures
 
 pub returns-in-Above : goal.returns-in-Above
-unfolding meets ordered
-returns-in-Above c =
-    let w = c.before.before in
-    λ v i.
-    c.in_order.ensures (scaled w.args.threshold) v (is-threshold w) i
-    ∙ ap (λ (o : Sense). meets o w.args.threshold v) (sym c.in-Above.is)
+unfolding meets
+returns-in-Above c v i = let b = below _ _ _ _ c.whole-limit.ensures i in grind (arith, to_z-of_z)
 
 pub returns-in-AtMost : goal.returns-in-AtMost
-unfolding meets ordered
-returns-in-AtMost c =
-    let w = c.before.before in
-    λ v i.
-    c.in_order-in-AtMost.ensures v (scaled w.args.threshold) i (is-threshold w)
-    ∙ ap (λ (o : Sense). meets o w.args.threshold v) (sym c.in-AtMost.is)
+unfolding meets
+returns-in-AtMost c v i = let b = at-most _ _ _ _ i c.whole-limit.ensures in grind (arith, to_z-of_z)

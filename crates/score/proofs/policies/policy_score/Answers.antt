@@ -1,73 +1,36 @@
 -- `score::policies::policy_score`: the default, or the operator over the present rules.
-use Prim.Native.Nat.{ℕ, ◌-◌, ◌^◌, ◌≤◌}
-use mathlib.Core.Path.{◌≡◌, sym, ap, subst, ◌∙◌}
-use native.Mathlib.Nat.{le_trans, pow-le-pow_right}
-use native.Mathlib.Omega.{arith}
-use borrow.Author.Rules.{rules}
-use lib.IntN.{ℤ, pos, nat_abs, ◌*ℤ◌}
-use mir.Syntax.{w64}
-use mir.Val.{to_z, of_z}
-use Rattle.arith.proofs.Signed.{natural-fits}
+use Rattle.std.proofs.Common.{◌-◌, ◌^◌, arith, rules, ◌≡◌, to_z, of_z, w64, sym, ap, subst, ◌∙◌}
 use Rattle.peal.specs.Score.{scaled}
 use Rattle.score.specs.Pairs.{Is}
-use Rattle.score.proofs.RuleLaws.{none-present, whole-score, product-score, product-natural, product-few}
+use Rattle.score.proofs.RuleLaws.{product-back, product-cast, product-is, whole-score, product-score, product-fits}
 use Rattle.score.proofs.policies.policy_score.Goals as goal
+use Rattle.score.proofs.policies.policy_score.Goals.{in_default-via-in-Mul+else-present-gt0, in_default-via-in_default}
 
-pub present_rules-present-requires : goal.present_rules-present-requires
-present_rules-present-requires c = c.requires
-
-pub returns-then-count-eq0 : goal.returns-then-count-eq0
-returns-then-count-eq0 c =
-    λ q e.
-    let v = c.present_rules-present.result in
-    let back : to_z w64 (of_z w64 v.value) ≡ v.value = search rules in
-    subst (Is c.whole.result)
-    (ap scaled back
-    ∙ none-present c.args.set q v (c.present_rules-present.ensures q e) c.if-count-eq0.true)
-    c.whole.ensures
-
--- in mul the value is a natural
-module _ (c : goal.In-Mul) where
-  natural : let r = c.present_rules-present.result in
-      (n : ℕ) × (to_z w64 (of_z w64 r.value) ≡ pos n) × (n ≤ 100 ^ r.count) × (r.count ≤ 8)
-  natural =
-      let h = c.requires in
-      let q = h.policy in
-      let r = c.present_rules-present.result in
-      let o = sym (c.operator_at-operator.ensures q h.held) ∙ c.in-Mul.is in
-      let t = c.present_rules-present.ensures q h.held in
-      let n = product-natural c.args.set q r t c.if-count-eq0.false h.range o in
-      let back : to_z w64 (of_z w64 r.value) ≡ r.value = search rules in
-      (n.0, back ∙ n.1, n.2, product-few c.args.set q r t h.range o)
-
-pub overflow_cast-value : goal.overflow_cast-value
-overflow_cast-value c =
-    let n = natural c in
-    natural-fits (to_z w64 (of_z w64 c.present_rules-present.result.value)) n.0 n.1
-    (omega (arith, le_trans n.2 (pow-le-pow_right {n = 100} (omega arith) {j = 8} n.3)))
+pub overflow_cast-present : goal.overflow_cast-present
+overflow_cast-present c =
+    product-cast _ (product-fits c.args.set c.args.policy.now _ c.present_rules-present.ensures.counted (sym c.operator.ensures ∙ c.in-Mul.is) c.if-present-gt0.true c.present_rules-present.ensures.range)
 
 pub of_product-requires : goal.of_product-requires
-of_product-requires c = let n = natural c in (omega (arith, n.2, ap nat_abs n.1), n.3)
+of_product-requires c =
+    let p = product-fits c.args.set c.args.policy.now _ c.present_rules-present.ensures.counted (sym c.operator.ensures ∙ c.in-Mul.is) c.if-present-gt0.true c.present_rules-present.ensures.range in
+    rw (product-back _ p) (p.bound, p.room)
 
 pub returns-in-Mul : goal.returns-in-Mul
 returns-in-Mul c =
-    let n = natural c.before in
-    λ q h.
-    let v = c.present_rules-present.result in
-    let back : to_z w64 (of_z w64 v.value) ≡ v.value = search rules in
+    let m = sym c.operator.ensures ∙ c.in-Mul.is in
+    let p = product-fits c.args.set c.args.policy.now _ c.present_rules-present.ensures.counted m c.if-present-gt0.true c.present_rules-present.ensures.range in
     subst (Is c.of_product.result)
-    (ap (λ (z : ℤ). pos (nat_abs z) *ℤ pos (100 ^ (8 - v.count))) n.1
-    ∙ ap (λ (z : ℤ). z *ℤ pos (100 ^ (8 - v.count))) (sym n.1 ∙ back)
-    ∙ product-score c.args.set q v (c.present_rules-present.ensures q h) c.if-count-eq0.false (sym (c.operator_at-operator.ensures q h) ∙ c.in-Mul.is))
+    (product-is _ p (100 ^ (8 - c.present_rules-present.result.count)) ∙ product-score c.args.set c.args.policy.now _ c.present_rules-present.ensures.counted m c.if-present-gt0.true)
     c.of_product.ensures
 
 pub returns-in_default : goal.returns-in_default
 returns-in_default c =
-    λ q h.
-    let v = c.present_rules-present.result in
-    let back : to_z w64 (of_z w64 v.value) ≡ v.value = search rules in
-    subst (Is c.whole-in_default.result)
-    (ap scaled back
-    ∙ whole-score c.args.set q v (c.present_rules-present.ensures q h) c.if-count-eq0.false
-    (λ m. c.in_default.not-Mul (c.operator_at-operator.ensures q h ∙ m)))
-    c.whole-in_default.ensures
+    let so = c.present_rules-present.result in
+    let back : to_z w64 (of_z w64 so.value) ≡ so.value = search rules in
+    subst (Is c.whole.result)
+    (ap scaled back ∙ whole-score c.args.set c.args.policy.now so c.present_rules-present.ensures.counted
+    (λ m. elim c.in_default.branch [
+      | in_default-via-in-Mul+else-present-gt0 w ↦ omega (arith, w.if-present-gt0.false)
+      | in_default-via-in_default w ↦ absurd (w.in_default.not-Mul (c.operator.ensures ∙ m))
+    ]))
+    c.whole.ensures

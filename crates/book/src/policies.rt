@@ -1,0 +1,90 @@
+// Policies as they are kept.
+ghost use Rattle.std.specs.Prelude.{◌≡◌};
+ghost use Rattle.peal.specs.Policies.{Policy as PealPolicy, mask_of};
+ghost use Rattle.book.specs.Acceptance.{no_rules, with_rule};
+ghost use Rattle.book.specs.Ranges.{PolicyInRange};
+
+use arrayvec::ArrayVec;
+use std::marker::Model;
+
+// A policy has a rule for each signal at most.
+pub const MOST_RULES: usize = 16;
+
+pub type Rules = ArrayVec<peal::Rule, MOST_RULES>;
+
+// A policy of an accepted book, or of a book so far: a clause sees the policy of document 01.
+#[derive(Drop)]
+pub struct Policy {
+    operator: peal::Operator,
+    default: i32,
+    rules: Rules,
+    // The set of the rules' signals.
+    mask: u16,
+}
+
+impl Model for Policy {
+    ghost Value = { PealPolicy };
+
+    ghost view = { λ p. record { operator = p.operator; default = p.default; rules = p.rules.items } };
+
+    ghost invariant = { λ p. (p.mask ≡ mask_of p.rules.items)
+        × PolicyInRange (record { operator = p.operator; default = p.default; rules = p.rules.items }) };
+}
+
+impl Default for Policy {
+    fn default() -> Policy {
+        Policy::new(peal::Operator::Min, 0)
+    }
+}
+
+impl Policy {
+    // A policy without rules.
+    #[tactic(auto, unfolding(peal::specs::Policies::mask_of, signals::specs::Sets::set_of))]
+    pub(crate) fn new(operator: peal::Operator, default: i32) -> Policy
+        requires { PolicyInRange (no_rules operator default) }
+        ensures { result ≡ no_rules operator default }
+    {
+        Policy {
+            operator,
+            default,
+            rules: ArrayVec::new(),
+            mask: 0,
+        }
+    }
+
+    // A rule more.
+    pub(crate) fn push_rule(&mut self, rule: peal::Rule)
+        requires { PolicyInRange (with_rule self.old rule) }
+        ensures { self.new ≡ with_rule self.old rule }
+    {
+        self.mask = (self.mask as u32 + signals::bit(rule.signal)) as u16;
+        self.rules.push(rule);
+    }
+
+    pub fn operator(&self) -> peal::Operator
+        ensures { result ≡ self.now.operator }
+    {
+        self.operator
+    }
+
+    pub fn default_score(&self) -> i32
+        ensures { result ≡ self.now.default }
+    {
+        self.default
+    }
+
+    // The rules, which are in range.
+    pub fn rules(&self) -> &[peal::Rule]
+        ensures rules { result.now ≡ self.now.rules }
+        ensures range { PolicyInRange self.now }
+    {
+        &self.rules
+    }
+
+    // The set of the rules' signals.
+    pub fn mask(&self) -> u16
+        ensures { result ≡ mask_of self.now.rules }
+    {
+        self.mask
+    }
+}

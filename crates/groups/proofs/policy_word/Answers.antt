@@ -1,7 +1,0 @@
--- `groups::policy_word`: bit by bit.
-use native.Mathlib.Omega.{arith}
-use Rattle.groups.proofs.Words.{policy-bits}
-use Rattle.groups.proofs.policy_word.Goals as goal
-
-pub returns : goal.returns
-returns c = policy-bits _ _ _ _ (omega arith)
