@@ -15,6 +15,6 @@ pub trait Refusal {
     fn value(&self) -> u64
         ensures { result ≡ value_of self.now };
 
-    // So a number fits the bits that a call for C has for it.
-    ghost few: { (refusal : Self) → number_of refusal < 32 };
+    // So a number fits the five bits that a call for C has for it, also as a second listing's, which is 16 higher.
+    ghost few: { (refusal : Self) → number_of refusal < 16 };
 }

@@ -38,7 +38,7 @@ declined_value (Refused r) = refusal_value r
 declined_value NoCondition = 0
 
 -- these numbers have room in a call for C
-pub reason_number_few : (r : Reason) → reason_number r < 32
+pub reason_number_few : (r : Reason) → reason_number r < 16
 reason_number_few TooLong = lit< tt
 reason_number_few NoForm = lit< tt
 reason_number_few OutOfPlace = lit< tt
@@ -46,7 +46,7 @@ reason_number_few TooMany = lit< tt
 reason_number_few OutOfRange = lit< tt
 reason_number_few Repeated = lit< tt
 
-pub declined_number_few : (d : Declined) → declined_number d < 32
+pub declined_number_few : (d : Declined) → declined_number d < 16
 declined_number_few (Refused r) = reason_number_few r.reason
 declined_number_few NoCondition = lit< tt
 

@@ -13,7 +13,7 @@ error_number (Declined d) = declined_number d
 error_number NoRoom = 8
 
 -- which has room in a call for C
-pub error_number_few : (e : CompileError) → error_number e < 32
+pub error_number_few : (e : CompileError) → error_number e < 16
 error_number_few (Declined d) = declined_number_few d
 error_number_few NoRoom = lit< tt
 

@@ -11,7 +11,7 @@ fault_number Length = 9
 fault_number (Record n) = 10
 
 -- which has room in a call for C
-pub fault_number_few : (f : Fault) → fault_number f < 32
+pub fault_number_few : (f : Fault) → fault_number f < 16
 fault_number_few Length = lit< tt
 fault_number_few (Record n) = lit< tt
 

@@ -13,7 +13,7 @@ error_number Unequal = 11
 error_number (Declined f) = fault_number f
 
 -- which has room in a call for C
-pub error_number_few : (e : TraverseError) → error_number e < 32
+pub error_number_few : (e : TraverseError) → error_number e < 16
 error_number_few Unequal = lit< tt
 error_number_few (Declined f) = fault_number_few f
 
