@@ -100,6 +100,9 @@ impl fmt::Display for Counts {
     }
 }
 
+// The number that document 01 gives a missing condition, for the crates above.
+pub const NO_CONDITION: u64 = 7;
+
 // Why a condition that was asked for is not there.
 #[derive(Clone, Copy)]
 pub enum Declined {
@@ -125,7 +128,7 @@ impl answers::Refusal for Declined {
     fn number(&self) -> u64 {
         match self {
             Declined::Refused(refusal) => refusal.number(),
-            Declined::NoCondition => 7,
+            Declined::NoCondition => NO_CONDITION,
         }
     }
 

@@ -29,6 +29,9 @@ pub enum CompileError {
     NoRoom,
 }
 
+// The number that document 01 gives a listing without room, for the crates above.
+pub const NO_ROOM: u64 = 8;
+
 impl From<book::Declined> for CompileError {
     ghost from_gives = { λ declined error. error ≡ Declined declined };
 
@@ -45,7 +48,7 @@ impl Refusal for CompileError {
     fn number(&self) -> u64 {
         match self {
             CompileError::Declined(declined) => declined.number(),
-            CompileError::NoRoom => 8,
+            CompileError::NoRoom => NO_ROOM,
         }
     }
 

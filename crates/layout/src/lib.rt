@@ -25,6 +25,11 @@ pub enum Fault {
     Record(usize),
 }
 
+// The numbers that document 01 gives the two, for the crates above.
+pub const BAD_LENGTH: u64 = 9;
+
+pub const BAD_RECORD: u64 = 10;
+
 impl Refusal for Fault {
     ghost number_of = { fault_number };
 
@@ -32,8 +37,8 @@ impl Refusal for Fault {
 
     fn number(&self) -> u64 {
         match self {
-            Fault::Length => 9,
-            Fault::Record(_) => 10,
+            Fault::Length => BAD_LENGTH,
+            Fault::Record(_) => BAD_RECORD,
         }
     }
 

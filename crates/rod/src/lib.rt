@@ -173,6 +173,9 @@ pub enum TraverseError {
     Declined(layout::Fault),
 }
 
+// The number that change request 6 gives unequal slices, for the crates above.
+pub const UNEQUAL: u64 = 11;
+
 impl From<layout::Fault> for TraverseError {
     ghost from_gives = { λ fault error. error ≡ Declined fault };
 
@@ -188,7 +191,7 @@ impl Refusal for TraverseError {
 
     fn number(&self) -> u64 {
         match self {
-            TraverseError::Unequal => 11,
+            TraverseError::Unequal => UNEQUAL,
             TraverseError::Declined(fault) => fault.number(),
         }
     }
