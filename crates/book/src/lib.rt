@@ -9,7 +9,7 @@ mod conditions;
 mod policies;
 mod reading;
 
-ghost use Rattle.std.specs.Prelude.{◌≡◌, Some};
+ghost use Rattle.std.specs.Prelude.{◌≡◌, ◌<◌, Some};
 ghost use Rattle.book.specs.Meaning.{reason_number, refusal_number, refusal_value, reason_number_few};
 ghost use Rattle.book.specs.Meaning.{declined_number, declined_value, declined_number_few};
 ghost use Rattle.book.specs.declared.Declined.TheVariants.{Refused};
@@ -40,8 +40,9 @@ pub enum Reason {
 
 impl Reason {
     // The number that document 01 gives it.
-    fn number(self) -> u64
-        ensures { result ≡ reason_number self }
+    pub fn number(self) -> u64
+        ensures told { result ≡ reason_number self }
+        ensures few { result < 16 }
     {
         match self {
             Reason::TooLong => 1,
@@ -52,6 +53,13 @@ impl Reason {
             Reason::Repeated => 6,
         }
     }
+}
+
+// The same, as a function for the crates above.
+pub fn reason_number(reason: Reason) -> u64
+    ensures { (result ≡ reason_number reason) × (result < 16) }
+{
+    reason.number()
 }
 
 // Where a book is refused: the line counts from 1, and is 0 for the whole book.
