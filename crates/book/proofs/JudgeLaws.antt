@@ -1,18 +1,21 @@
--- Laws of accepting a line: one that passes the tests 3 to 6, and what the code's own tests say of them.
-use Prim.Native.Nat.{ℕ}
-use mathlib.Core.Bool.{Bool, true, ◌&&◌, ◌||◌}
+-- Laws of accepting a line: one that passes the tests 3 to 6 or fails one, and what the code's own tests say of them.
+use Prim.Native.Nat.{ℕ, ◌≤◌, ◌<◌}
+use mathlib.Core.Bool.{Bool, true, false, ◌&&◌, ◌||◌}
 use mathlib.Core.List.{List, [], ◌∷◌}
 use mathlib.Core.Path.{◌≡◌, refl, sym, ap, ap₂, ◌∙◌}
+use native.Mathlib.Omega.{arith}
 use lib.Dec.{eqb}
-use Rattle.answers.specs.Answers.{result}
+use lib.ListN.{length}
+use borrow.Author.Tests.{eq-eqb, ne_eqb}
+use Rattle.answers.specs.Answers.{result, refused}
 use Rattle.arith.specs.Lists.{exists, every}
 use Rattle.std.specs.List.{list_any, list_all}
 use Rattle.arith.proofs.EveryExists.{exists-map, exists-either}
 use Rattle.signals.specs.Sets.{present}
 use Rattle.signals.proofs.SetOfLaws.{present-set}
 use Rattle.peal.specs.Policies.{Rule, Policy, Exclusion, mask_of}
-use Rattle.text.specs.Forms.{Form}
-use Rattle.book.specs.Acceptance.{BookSoFar, in_place, in_count, mentions_below, in_range, excludes, is_new, accept}
+use Rattle.text.specs.Forms.{Form, exclusion}
+use Rattle.book.specs.Acceptance.{BookSoFar, no_condition, in_place, in_count, mentions_below, in_range, excludes, is_new, accept}
 use Rattle.book.specs.Ranges.{signals_of, PolicyInRange}
 use Rattle.book.specs.Judged.{with_line, code_below}
 use Rattle.text.specs.Codes.{expression_of, AreCodes}
@@ -22,6 +25,24 @@ use Rattle.book.proofs.MentionedPolicies.{codes-below}
 pub accept-fine : (n : ℕ) (so : BookSoFar) (f : Form) → in_place n so f ≡ true → in_count so f ≡ true → in_range so f ≡ true → is_new so f ≡ true → result (with_line so f) ≡ accept n so f
 unfolding accept with_line
 accept-fine n so f a b c d = rw (a, b, c, d)
+
+-- the last test fails
+pub accept-6 : (n : ℕ) (so : BookSoFar) (f : Form) → in_place n so f ≡ true → in_count so f ≡ true → in_range so f ≡ true → is_new so f ≡ false → refused 6 n ≡ accept n so f
+unfolding accept
+accept-6 n so f a b c d = rw (a, b, c, d)
+
+-- ---- before the first condition, and an exclusion after it
+
+module _ (so : BookSoFar) (a : ℕ) (e : a ≡ length so.book.conditions) where
+  no-condition : a ≤ 0 → no_condition so ≡ true
+  no-condition h = eq-eqb (length so.book.conditions) 0 (omega arith)
+
+  some-condition : 0 < a → no_condition so ≡ false
+  some-condition h = ne_eqb (length so.book.conditions) 0 (λ q. omega arith)
+
+pub exclusion-misplaced : (so : BookSoFar) (a b n k : ℕ) → k ≡ length so.book.conditions → 0 < k → in_place n so (exclusion a b) ≡ false
+unfolding in_place
+exclusion-misplaced so a b n k e h = some-condition so k e h
 
 -- ---- the code's tests: of every code and of some exclusion, in the words of the library, and of a set
 
