@@ -2,7 +2,7 @@
 use Prim.Native.Nat.{ℕ, ◌+◌, ◌-◌, ◌*◌, ◌/◌, ◌%◌, ◌^◌, ◌≤◌}
 use mathlib.Core.Path.{◌≡◌, sym, ap, subst, ◌∙◌}
 use native.Mathlib.Omega.{arith}
-use lib.IntN.{ℤ, pos}
+use lib.IntN.{ℤ, pos, ◌*ℤ◌}
 use mir.Syntax.{w64}
 use mir.Val.{to_z}
 use lib.Pow.{pow-add}
@@ -12,10 +12,18 @@ use Rattle.std.specs.Prelude.{Option, Some}
 use Rattle.std.proofs.lemmas.Int.{ints}
 use Rattle.std.specs.declared.cmp.Ordering.{Ordering}
 use Rattle.std.specs.Ordering.{int_cmp, nat_cmp, ordering_then, partial_ordering_then, partial_lt, partial_le, ord_min, ord_max}
+use Rattle.arith.proofs.Order.{above, under, above-scale, under-scale, sum-parts}
 use Rattle.peal.specs.Policies.{smaller, larger}
 use Rattle.peal.specs.Score.{scaled, of_two}
 use Rattle.score.specs.Pairs.{Is}
 use Rattle.score.specs.declared.exact.Exact.{Exact}
+
+-- a score in parts, from its pair, as naturals
+pub parts : (x : Exact) (v : ℤ) → Is x v → above v + under x.hundredths * 10 ^ 14 ≡ above x.hundredths * 10 ^ 14 + x.remainder + under v
+unfolding scaled
+parts x v i =
+    rw (← i.same, ← above-scale x.hundredths (10 ^ 14), ← under-scale x.hundredths (10 ^ 14))
+    (sum-parts (x.hundredths *ℤ pos (10 ^ 14)) x.remainder)
 
 -- the derived order: by the hundredths, then by the remainder
 abbrev pub exact_cmp : Exact → Exact → Ordering
