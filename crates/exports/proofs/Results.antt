@@ -5,7 +5,7 @@ use mathlib.Core.List.{List}
 use mathlib.Core.Option.{Option, none, some}
 use mathlib.Core.Path.{◌≡◌, sym, ap, subst, ◌∙◌}
 use native.Mathlib.Omega.{arith}
-use lib.IntN.{pos, negsuc}
+use lib.IntN.{pos, negsuc, nat_abs, ◌+ℤ◌}
 use lib.ListN.{length}
 use lib.Signed.{le_z, ◌≤ℤ◌}
 use Rattle.std.proofs.lemmas.Int.{ints}
@@ -24,6 +24,7 @@ use Rattle.book.proofs.BoundedLaws.{read-in-range}
 use Rattle.score.specs.Shown.{shown_answer}
 use Rattle.score.specs.declared.exact.Exact.{Exact}
 use Rattle.score.proofs.ShownTells.{shown-tells}
+use Rattle.exports.specs.Packing.{below_zero}
 
 pub counts-small : (bytes : List ℕ) (n : Counts) → result n ≡ checked bytes → (n.policies ≤ 16) × (n.conditions ≤ 8)
 unfolding checked
@@ -41,6 +42,13 @@ unfolding within
 hundredths-bounded bytes number set x h =
     let range : (le_z (negsuc 9999) x.hundredths && le_z x.hundredths (pos 160000)) ≡ true = shown-tells.range bytes number set x (sym h) in
     (grind (arith, ints), grind (arith, ints))
+
+-- counted from the lowest
+pub hundredths-natural : (bytes : List ℕ) (number set : ℕ) (x : Exact) → shown_answer bytes number set ≡ result x
+    → (n : ℕ) × (x.hundredths +ℤ below_zero ≡ pos n) × (n ≤ 170000)
+hundredths-natural bytes number set x h =
+    let bounds = hundredths-bounded bytes number set x (sym h) in
+    (nat_abs (x.hundredths +ℤ below_zero), omega (arith, ints, bounds), omega (arith, ints, bounds))
 
 -- ---- a traverse
 
