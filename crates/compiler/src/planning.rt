@@ -83,7 +83,7 @@ pub fn planned(policy: &book::Policy, threshold: i32) -> Plan
 {
     let operator = policy.operator();
     let count = policy.rules().len();
-    let rules = ranking::in_rank_order(policy);
+    let rules = ranking::in_rank_order(operator, policy.rules());
     // Of no rules there is no first: its score and its bit are 0.
     let mut row = Row {
         limit: first_limit(operator, threshold),
