@@ -7,7 +7,7 @@
 // Each number stands after one space.
 ghost use Rattle.std.specs.Prelude.{◌≤◌, length};
 
-use printing::{print_answer, print_count, print_decision};
+use printing::{print_answer, print_bytes, print_count, print_decision};
 use std::io;
 use std::io::Write;
 use vectors::{ROOM, after_word, numbers, parted, signal_set};
@@ -20,10 +20,7 @@ fn run_verdict<W: Write>(out: &mut W, text: &[u8]) -> io::Result<()> {
 }
 
 fn run_choice<W: Write>(out: &mut W, text: &[u8]) -> io::Result<()> {
-    match checks::choice(&numbers(text)) {
-        Ok(chosen) => write!(out, "{} judged {}", chosen.choice, chosen.judged),
-        Err(refusal) => write!(out, "{refusal}"),
-    }
+    print_answer(out, checks::choice(&numbers(text)))
 }
 
 fn run_read<W: Write>(out: &mut W, text: &[u8]) -> io::Result<bool> {
@@ -56,10 +53,7 @@ fn traverse_sets<W: Write>(
     }
     print_count(out, "answered", rod::traverse(words, sets, answers))?;
     write!(out, " left")?;
-    for answer in answers {
-        write!(out, " {answer}")?;
-    }
-    Ok(())
+    print_bytes(out, answers)
 }
 
 // The first number is how many answers are lent, at most as many as there is room for; the others are the sets.

@@ -53,6 +53,9 @@ outcome_text Always = codes "always"
 outcome_text Never = codes "never"
 outcome_text (Both y n) = codes "both " ++ decimal y ++ codes " " ++ decimal n
 
+abbrev pub chosen_text : CodeChosen → List ℕ
+chosen_text c = outcome_text c.choice ++ codes " judged " ++ decimal c.judged
+
 abbrev pub which_text : CodeWhich → List ℕ
 which_text First = codes "first"
 which_text Second = codes "second"

@@ -13,7 +13,7 @@ ghost use Rattle.groups.specs.Groups.{IsGroup, GroupOf, SoundWith};
 ghost use Rattle.checks.specs.Checks.{permitted, lowest_set, chosen, differ_at, comparison};
 ghost use Rattle.checks.specs.Meaning.{chosen_meaning, choice_meaning, comparison_meaning, DeclinedBy};
 ghost use Rattle.checks.specs.Walking.{chosen_by, LowestIn, apart_bit, LowestInGroup, PermittedUpTo};
-ghost use Rattle.checks.specs.Meaning.{outcome_text, which_text, compared_text, error_text};
+ghost use Rattle.checks.specs.Meaning.{outcome_text, chosen_text, which_text, compared_text, error_text};
 
 use answers::Refusal;
 use std::fmt;
@@ -44,6 +44,14 @@ impl fmt::Display for Outcome {
 pub struct Chosen {
     pub choice: Outcome,
     pub judged: u32,
+}
+
+impl fmt::Display for Chosen {
+    ghost output = { λ chosen. Some (chosen_text chosen) };
+
+    fn fmt<W: fmt::Write>(&self, f: &mut fmt::Formatter<W>) -> fmt::Result {
+        write!(f, "{} judged {}", self.choice, self.judged)
+    }
 }
 
 // One of the two listings.

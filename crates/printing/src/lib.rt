@@ -86,3 +86,13 @@ pub fn print_words<W: Write>(out: &mut W, words: &[u32]) -> io::Result<()>
     }
     Ok(())
 }
+
+// Bytes as numbers, each after a space.
+pub fn print_bytes<W: Write>(out: &mut W, bytes: &[u8]) -> io::Result<()>
+    ensures { OnOk result (Appends (W.contents out.old) (W.contents out.new) (spaced bytes.now)) }
+{
+    for byte in bytes {
+        write!(out, " {byte}")?;
+    }
+    Ok(())
+}
