@@ -10,21 +10,24 @@ ghost use Rattle.std.specs.Prelude.{◌≤◌, length};
 use printing::{print_answer, print_bytes, print_count, print_decision};
 use std::io;
 use std::io::Write;
-use vectors::{ROOM, after_word, numbers, parted, signal_set};
+use vectors::{after_word, numbers, parted, signal_set};
+
+// At most so many numbers are taken, of a line or on either side of its `/`, and at most so many answers are lent.
+const ROOM: usize = 512;
 
 // What each lent answer holds before the call.
 const LENT: u8 = 7;
 
 fn run_verdict<W: Write>(out: &mut W, text: &[u8]) -> io::Result<()> {
-    print_answer(out, layout::check(&numbers(text)).map(|_| "sound"))
+    print_answer(out, layout::check(&numbers::<ROOM>(text)).map(|_| "sound"))
 }
 
 fn run_choice<W: Write>(out: &mut W, text: &[u8]) -> io::Result<()> {
-    print_answer(out, checks::choice(&numbers(text)))
+    print_answer(out, checks::choice(&numbers::<ROOM>(text)))
 }
 
 fn run_read<W: Write>(out: &mut W, text: &[u8]) -> io::Result<bool> {
-    let numbers = numbers(text);
+    let numbers = numbers::<ROOM>(text);
     let Some((set, words)) = numbers.split_first() else {
         return Ok(false);
     };
@@ -36,7 +39,10 @@ fn run_compare<W: Write>(out: &mut W, text: &[u8]) -> io::Result<bool> {
     let Some((one, two)) = parted(text, b'/') else {
         return Ok(false);
     };
-    print_answer(out, checks::compare(&numbers(one), &numbers(two)))?;
+    print_answer(
+        out,
+        checks::compare(&numbers::<ROOM>(one), &numbers::<ROOM>(two)),
+    )?;
     Ok(true)
 }
 
@@ -83,7 +89,7 @@ fn run_traverse<W: Write>(out: &mut W, text: &[u8]) -> io::Result<bool> {
     let Some((left, right)) = parted(text, b'/') else {
         return Ok(false);
     };
-    traverse_numbers(out, &numbers(left), &numbers(right))
+    traverse_numbers(out, &numbers::<ROOM>(left), &numbers::<ROOM>(right))
 }
 
 // Answers a vector of listings, and tells whether the line is one. Each word has its arm: no two take and give the same.

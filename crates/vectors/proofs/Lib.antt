@@ -1,1 +1,2 @@
+mod NumberLaws
 mod Words

@@ -2,6 +2,8 @@
 #![tactic(auto)]
 
 ghost use Rattle.std.specs.Prelude.{◌≡◌, ◌≢◌, ◌≤◌, ◌∷◌, ◌++◌, length, take, IfSome, IfNone, Contains};
+ghost use Rattle.arrayvec.specs.ArrayVec.{array_vec_len};
+ghost use Rattle.vectors.specs.Numbers.{with_digits, after_digits, after_space, first_numbers};
 
 use arrayvec::ArrayVec;
 
@@ -18,7 +20,9 @@ struct Number<'a> {
 // The number that a text begins with, which goes on to the first byte that is no digit; what is over the largest number of
 // 32 bits is cut to that.
 fn number_at(text: &[u8]) -> Number
-    ensures { length result.rest.now ≤ length text.now }
+    ensures value { result.value ≡ with_digits 0 text.now }
+    ensures rest { result.rest.now ≡ after_digits text.now }
+    ensures within { length result.rest.now ≤ length text.now }
 {
     let mut value = 0u32;
     for (i, byte) in text.iter().enumerate() {
@@ -73,13 +77,14 @@ pub fn after_word<'a>(line: &'a [u8], word: &[u8]) -> Option<&'a [u8]>
     }
 }
 
-// At most so many numbers are taken of a text.
-pub const ROOM: usize = 512;
-
 // The numbers of a text, each after one space, as far as there is room.
-pub fn numbers(text: &[u8]) -> ArrayVec<u32, ROOM> {
+pub fn numbers<const N: usize>(text: &[u8]) -> ArrayVec<u32, N>
+    ensures room { array_vec_len result ≤ N }
+    ensures read { result.items ≡ first_numbers N (after_space text.now) }
+{
     let mut numbers = ArrayVec::new();
     let mut rest = after_word(text, b" ").unwrap_or(text);
+    // Not a `for`: where the next number begins is known once this one is read.
     while !rest.is_empty() && !numbers.is_full() {
         let number = number_at(rest);
         numbers.push(number.value);
