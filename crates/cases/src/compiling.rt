@@ -39,11 +39,12 @@ fn put_marks(words: &mut [u32]) {
 
 // All words from index `from` on are marked.
 fn are_marked(words: &[u32], from: usize) -> bool {
-    words
-        .iter()
-        .enumerate()
-        .skip(from)
-        .all(|(i, word)| *word == mark(i))
+    for i in from..words.len() {
+        if words[i] != mark(i) {
+            return false;
+        }
+    }
+    true
 }
 
 fn print_kept<W: Write>(out: &mut W, words: &[u32], from: usize) -> io::Result<()> {
