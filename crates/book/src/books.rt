@@ -4,7 +4,7 @@ ghost use Rattle.peal.specs.Policies.{Book as PealBook};
 ghost use Rattle.book.specs.Acceptance.{empty_book, last_policy, with_rule, with_policy, with_last, with_exclusion, with_condition};
 ghost use Rattle.book.specs.Ranges.{PolicyInRange, BookInRange};
 ghost use Rattle.std.specs.Coded.{codes as known_codes};
-ghost use Rattle.text.specs.CodedExpressions.{coded_expression};
+ghost use Rattle.text.proofs.CodedExpressions.{coded_expression};
 
 use crate::conditions::Condition;
 use crate::policies::Policy;

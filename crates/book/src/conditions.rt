@@ -4,7 +4,7 @@ ghost use Rattle.peal.specs.Policies.{Condition as PealCondition};
 ghost use Rattle.text.specs.Codes.{codes_of, expression_of, AreCodes};
 ghost use Rattle.book.specs.SoFar.{condition_of};
 ghost use Rattle.std.specs.Coded.{codes as known_codes};
-ghost use Rattle.text.specs.CodedExpressions.{coded_expression};
+ghost use Rattle.text.proofs.CodedExpressions.{coded_expression};
 
 use std::marker::Model;
 use text::{Code, Codes};

@@ -9,7 +9,8 @@ ghost use Rattle.layout.specs.Writing.{RoomFor, put_records};
 ghost use Rattle.peal.specs.Policies.{mask_of};
 ghost use Rattle.compiler.specs.Worth.{initial as initial_of, reached_of};
 ghost use Rattle.compiler.specs.Planning.{ThresholdFits};
-ghost use Rattle.compiler.specs.Putting.{put_masks, put_none, put_on, put_left};
+ghost use Rattle.compiler.specs.Putting.{put_masks};
+ghost use Rattle.layout.proofs.PuttingLaws.{put_none, put_on, put_left};
 ghost use Rattle.compiler.specs.Searching.{Point, taken_of, having, all_at, taking, found, Searching, CanSearch, ForPoints, lines_of};
 
 use crate::planning::{Plan, UNIT, initial, planned};

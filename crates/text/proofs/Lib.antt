@@ -1,3 +1,4 @@
+pub mod CodedExpressions
 pub mod TextLaws
 pub mod NumberLaws
 pub mod WordLaws

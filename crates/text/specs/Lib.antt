@@ -5,6 +5,5 @@ pub mod Forms
 pub mod Spelling
 pub mod LineMeaning
 pub mod Codes
-pub mod CodedExpressions
 pub mod Parsing
 pub mod Computing

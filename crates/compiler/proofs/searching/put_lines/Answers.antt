@@ -32,7 +32,6 @@ search-requires c =
 
 -- so many lines as are found, the last of which is that of the policy
 pub returns : goal.returns
-unfolding put_masks
 returns c =
     let q = c.args.policy.now in
     let t = to_z-of_z w32 c.args.threshold c.ranges.threshold in
