@@ -18,7 +18,7 @@ pub codes-join : (m : MinMax) (a b : Expression) → codes_of (join m a b) ≡ (
 unfolding codes_of postfix
 codes-join m a b =
     map-append code_of (postfix a) (postfix b ++ (joining m ∷ []))
-    ∙ ap (λ (l : List Code). map code_of (postfix a) ++ l) (map-append code_of (postfix b) (joining m ∷ []))
+    ∙ ap (λ (l : List (Code ℕ)). map code_of (postfix a) ++ l) (map-append code_of (postfix b) (joining m ∷ []))
     ∙ sym (append_assoc (map code_of (postfix a)) (map code_of (postfix b)) (code_of (joining m) ∷ []))
 
 -- ---- by nodes
@@ -33,7 +33,7 @@ node-code (value k) = refl
 node-code (joining smaller) = refl
 node-code (joining larger) = refl
 
-pub code-meaning : (code : Code) → code_of (node_meaning code) ≡ code
+pub code-meaning : (code : Code ℕ) → code_of (node_meaning code) ≡ code
 unfolding node_meaning code_of
 code-meaning Min = refl
 code-meaning Max = refl

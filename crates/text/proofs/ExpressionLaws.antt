@@ -25,8 +25,8 @@ use Rattle.text.proofs.CodeLaws.{codes-leaf, codes-join}
 
 -- ---- what a contract says, by the answer that was given
 
-module _ (line : List ℕ) (at : ℕ) (r : Prelude.Option (ArrayVec Code)) where
-  pub expression-found : ExpressionRead line at r → {codes : ArrayVec Code} → r ≡ Some codes → WholeRead line at codes.items
+module _ (line : List ℕ) (at : ℕ) (r : Prelude.Option (ArrayVec (Code ℕ))) where
+  pub expression-found : ExpressionRead line at r → {codes : ArrayVec (Code ℕ)} → r ≡ Some codes → WholeRead line at codes.items
   unfolding ExpressionRead
   expression-found h e = subst (ExpressionRead line at) e h
 
@@ -42,11 +42,11 @@ can-on line at k n can h = record { short = can.short; within = h; room = omega 
 
 -- ---- a policy number, from its first digit to the end of its digits
 
-module _ (line : List ℕ) (at : ℕ) (before : List Code) (end : ℕ) (q : end ≡ at + digit_count (drop at line)) where
+module _ (line : List ℕ) (at : ℕ) (before : List (Code ℕ)) (end : ℕ) (q : end ≡ at + digit_count (drop at line)) where
   digits_are : take (end - at) (drop at line) ≡ take (digit_count (drop at line)) (drop at line)
   digits_are = let u : digit_count (drop at line) ≡ end - at = omega arith in rw u
 
-  pub no-mention : (codes : List Code) → natural (take (end - at) (drop at line)) ≡ none → MentionRead line at before None codes
+  pub no-mention : (codes : List (Code ℕ)) → natural (take (end - at) (drop at line)) ≡ none → MentionRead line at before None codes
   unfolding MentionRead mention
   no-mention codes h = rw (← digits_are, h)
 
@@ -55,7 +55,7 @@ module _ (line : List ℕ) (at : ℕ) (before : List Code) (end : ℕ) (q : end 
     unfolding mention
     a-mention = rw (← digits_are, h, drop-drop (digit_count (drop at line)) at line, ← q)
 
-    pub mention-put : (codes : List Code) → at ≤ length line → codes ≡ before ++ (Policy policy ∷ []) → MentionRead line at before (Some end) codes
+    pub mention-put : (codes : List (Code ℕ)) → at ≤ length line → codes ≡ before ++ (Policy policy ∷ []) → MentionRead line at before (Some end) codes
     unfolding MentionRead
     mention-put codes w p =
         let forward : at < end = omega (arith, natural-length _ policy h, length-take (end - at) (drop at line)) in
@@ -88,13 +88,13 @@ join-room m s i l e = omega (arith, word_room (min_max_word m) s i l (join-begin
 
 -- ---- an expression
 
-module _ (line : List ℕ) (at : ℕ) (before : List Code) where
+module _ (line : List ℕ) (at : ℕ) (before : List (Code ℕ)) where
   -- where the definition says so at the bounds above 0
   leads : {e : Expression} {s : List ℕ} → at < length line → ((j : ℕ) → length line ≤ suc j + at → leading_expression (suc j) (drop at line) ≡ some (e, s)) → Leads line at (some (e, s))
   leads w f zero l = absurd (omega arith)
   leads w f (suc j) l = f j l
 
-  leads-not : (codes : List Code) → ((j : ℕ) → length line ≤ suc j + at → leading_expression (suc j) (drop at line) ≡ none) → LeadingRead line at before None codes
+  leads-not : (codes : List (Code ℕ)) → ((j : ℕ) → length line ≤ suc j + at → leading_expression (suc j) (drop at line) ≡ none) → LeadingRead line at before None codes
   unfolding LeadingRead leading_expression
   leads-not codes f zero l = refl
   leads-not codes f (suc j) l = f j l
@@ -104,7 +104,7 @@ module _ (line : List ℕ) (at : ℕ) (before : List Code) where
     unfolding leading_expression mention_word
     by-mention j = rw (h, drop-drop 1 at line)
 
-    pub leading-mention : (r : Prelude.Option ℕ) (codes : List Code) → MentionRead line (at + 1) before r codes → LeadingRead line at before r codes
+    pub leading-mention : (r : Prelude.Option ℕ) (codes : List (Code ℕ)) → MentionRead line (at + 1) before r codes → LeadingRead line at before r codes
     unfolding MentionRead LeadingRead
     leading-mention (Some end) codes g =
         record {
@@ -120,7 +120,7 @@ module _ (line : List ℕ) (at : ℕ) (before : List Code) where
         }
     leading-mention None codes g = leads-not codes (λ j l. by-mention j ∙ g)
 
-  module _ (codes : List Code) (h : begins (bytes "p") (drop at line) ≡ false) where
+  module _ (codes : List (Code ℕ)) (h : begins (bytes "p") (drop at line) ≡ false) where
     pub leading-no-join : leading_join (drop at line) ≡ none → LeadingRead line at before None codes
     unfolding leading_expression mention_word
     leading-no-join e = leads-not codes (λ j l. rw (h, e))
@@ -130,7 +130,7 @@ module _ (line : List ℕ) (at : ℕ) (before : List Code) where
       unfolding leading_expression mention_word
       leading-no-pair f = leads-not codes (λ j l. rw (h, e, join-length m, drop-drop 3 at line, f j (omega arith)))
 
-      pub leading-joined : (end : ℕ) (middle : List Code) → TwoRead line (at + 3) before end middle → (code : Code) → at ≤ length line → code ≡ code_of (joining m) → codes ≡ middle ++ (code ∷ [])
+      pub leading-joined : (end : ℕ) (middle : List (Code ℕ)) → TwoRead line (at + 3) before end middle → (code : Code ℕ) → at ≤ length line → code ≡ code_of (joining m) → codes ≡ middle ++ (code ∷ [])
           → LeadingRead line at before (Some end) codes
       unfolding LeadingRead leading_expression mention_word
       leading-joined end middle g code w c p =
@@ -159,7 +159,7 @@ module _ (line : List ℕ) (at : ℕ) (can : CanRead line at 0) where
   unfolding ExpressionRead nothing_after
   no-expression f = by-leading f
 
-  module _ {before : List Code} {end : ℕ} {codes : List Code} (r : TreeRead line at before end codes) where
+  module _ {before : List (Code ℕ)} {end : ℕ} {codes : List (Code ℕ)} (r : TreeRead line at before end codes) where
     pub more-after : (end ≡ length line → ⊥) → ExpressionRead line at None
     unfolding ExpressionRead nothing_after
     more-after n =

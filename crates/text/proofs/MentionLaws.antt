@@ -24,7 +24,7 @@ use Rattle.text.proofs.ExpressionLaws.{join-length, join-begins}
 
 pub codes-count : (e : Expression) → length (codes_of e) + 1 ≡ 2 * leaf_count e
 unfolding leaf_count
-codes-count (leaf n) = ap (λ (l : List Code). length l + 1) (codes-leaf n)
+codes-count (leaf n) = ap (λ (l : List (Code ℕ)). length l + 1) (codes-leaf n)
 codes-count (join m a b) =
     omega (arith, codes-count a, codes-count b, ap length (codes-join m a b), length-append (codes_of a) (codes_of b), length-append (codes_of a ++ codes_of b) (code_of (joining m) ∷ []))
 

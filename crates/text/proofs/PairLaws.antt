@@ -16,12 +16,12 @@ use Rattle.text.specs.declared.expressions.Code.{Code}
 use Rattle.text.proofs.WordLaws.{word_room, after-word, no_word}
 
 -- after the left one there is room for the right one
-pub can-right : (line : List ℕ) (at : ℕ) (before : List Code) (comma : ℕ) (middle : List Code) → CanRead line at (length before) → TreeRead line (at + 1) before comma middle → comma + 1 ≤ length line
+pub can-right : (line : List ℕ) (at : ℕ) (before : List (Code ℕ)) (comma : ℕ) (middle : List (Code ℕ)) → CanRead line at (length before) → TreeRead line (at + 1) before comma middle → comma + 1 ≤ length line
     → CanRead line (comma + 1) (length middle)
 can-right line at before comma middle can a h = record { short = can.short; within = h; room = omega (arith, can.room, a.read.room) }
 
 -- every way through the reading of a pair
-module _ (line : List ℕ) (at : ℕ) (before codes : List Code) where
+module _ (line : List ℕ) (at : ℕ) (before codes : List (Code ℕ)) where
   pairs : {a b : Expression} {s : List ℕ} → at < length line → ((j : ℕ) → length line ≤ suc j + at → leading_pair (suc j) (drop at line) ≡ some (a, b, s)) → PairLeads line at (some (a, b, s))
   pairs w f zero l = absurd (omega arith)
   pairs w f (suc j) l = f j l
@@ -40,7 +40,7 @@ module _ (line : List ℕ) (at : ℕ) (before codes : List Code) where
     unfolding leading_pair
     pair-no-left f = pairs-not (λ j l. rw (after-word (bytes "(") line at h, f j (omega arith)))
 
-    module _ {comma : ℕ} {middle : List Code} (a : TreeRead line (at + 1) before comma middle) where
+    module _ {comma : ℕ} {middle : List (Code ℕ)} (a : TreeRead line (at + 1) before comma middle) where
       pub pair-no-comma : begins (bytes ",") (drop comma line) ≡ false → PairRead line at before None codes
       unfolding leading_pair
       pair-no-comma c = pairs-not (λ j l. rw (after-word (bytes "(") line at h, a.found j (omega arith), no_word (bytes ",") (drop comma line) c))

@@ -10,17 +10,17 @@ abbrev pub code_cells : ℕ
 code_cells = 31
 
 -- the code of a node: `min`, `max`, or a policy by its number
-unfoldable pub code_of : Node MinMax ℕ → Code
+unfoldable pub code_of : Node MinMax ℕ → Code ℕ
 code_of (value n) = Policy n
 code_of (joining smaller) = Min
 code_of (joining larger) = Max
 
 -- the codes of an expression, in the order left, right, join
-unfoldable pub codes_of : Expression → List Code
+unfoldable pub codes_of : Expression → List (Code ℕ)
 codes_of e = map code_of (postfix e)
 
 -- the node of a code
-unfoldable pub node_meaning : Code → Node MinMax ℕ
+unfoldable pub node_meaning : Code ℕ → Node MinMax ℕ
 node_meaning Min = joining smaller
 node_meaning Max = joining larger
 node_meaning (Policy n) = value n
@@ -31,9 +31,9 @@ last_made [] = leaf 0
 last_made (e ∷ es) = e
 
 -- the expression of some codes: each join takes the last two trees
-unfoldable pub expression_of : List Code → Expression
+unfoldable pub expression_of : List (Code ℕ) → Expression
 expression_of codes = last_made (run join leaf (map node_meaning codes) [])
 
 -- they are an expression's
-abbrev pub AreCodes : List Code → Type 0
+abbrev pub AreCodes : List (Code ℕ) → Type 0
 AreCodes codes = codes ≡ codes_of (expression_of codes)

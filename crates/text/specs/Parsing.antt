@@ -18,7 +18,7 @@ pub record CanRead (line : List ℕ) (at n : ℕ) : Type 0 where
   pub room : 4 * n + fewest_before ≤ at
 
 -- after reading up to `end`: the codes added to those so far; each code took 4 bytes, all together up to `slack` fewer
-pub record HasRead (line : List ℕ) (at : ℕ) (before : List Code) (end : ℕ) (codes added : List Code) (slack : ℕ)
+pub record HasRead (line : List ℕ) (at : ℕ) (before : List (Code ℕ)) (end : ℕ) (codes added : List (Code ℕ)) (slack : ℕ)
     : Type 0 where
   pub within : end ≤ length line
   pub forward : at < end
@@ -26,18 +26,18 @@ pub record HasRead (line : List ℕ) (at : ℕ) (before : List Code) (end : ℕ)
   pub same : codes ≡ before ++ added
 
 -- what reading `min` or `max` at the front of s promises
-unfoldable pub JoinRead : List ℕ → Prelude.Option Code → Type 0
+unfoldable pub JoinRead : List ℕ → Prelude.Option (Code ℕ) → Type 0
 JoinRead s (Some code) = (m : MinMax) × (leading_join s ≡ some m) × (code ≡ code_of (joining m))
 JoinRead s None = leading_join s ≡ none
 
 -- a policy number was read at a place
-pub record PolicyRead (line : List ℕ) (at : ℕ) (before : List Code) (end : ℕ) (codes : List Code) : Type 0 where
+pub record PolicyRead (line : List ℕ) (at : ℕ) (before : List (Code ℕ)) (end : ℕ) (codes : List (Code ℕ)) : Type 0 where
   pub policy : ℕ
   pub found : mention (drop at line) ≡ some (leaf policy, drop end line)
   pub read : HasRead line at before end codes (codes_of (leaf policy)) 3
 
 -- what reading a policy number at a place promises
-unfoldable pub MentionRead : List ℕ → ℕ → List Code → Prelude.Option ℕ → List Code → Type 0
+unfoldable pub MentionRead : List ℕ → ℕ → List (Code ℕ) → Prelude.Option ℕ → List (Code ℕ) → Type 0
 MentionRead line at before (Some end) codes = PolicyRead line at before end codes
 MentionRead line at before None codes = mention (drop at line) ≡ none
 
@@ -46,13 +46,13 @@ abbrev pub Leads : List ℕ → ℕ → Option (Expression × List ℕ) → Type
 Leads line at o = (k : ℕ) → length line ≤ k + at → leading_expression k (drop at line) ≡ o
 
 -- an expression was read at a place
-pub record TreeRead (line : List ℕ) (at : ℕ) (before : List Code) (end : ℕ) (codes : List Code) : Type 0 where
+pub record TreeRead (line : List ℕ) (at : ℕ) (before : List (Code ℕ)) (end : ℕ) (codes : List (Code ℕ)) : Type 0 where
   pub tree : Expression
   pub found : Leads line at (some (tree, drop end line))
   pub read : HasRead line at before end codes (codes_of tree) 2
 
 -- what reading an expression at a place promises
-unfoldable pub LeadingRead : List ℕ → ℕ → List Code → Prelude.Option ℕ → List Code → Type 0
+unfoldable pub LeadingRead : List ℕ → ℕ → List (Code ℕ) → Prelude.Option ℕ → List (Code ℕ) → Type 0
 LeadingRead line at before (Some end) codes = TreeRead line at before end codes
 LeadingRead line at before None codes = Leads line at none
 
@@ -60,23 +60,23 @@ LeadingRead line at before None codes = Leads line at none
 abbrev pub PairLeads : List ℕ → ℕ → Option (Expression × Expression × List ℕ) → Type 0
 PairLeads line at o = (k : ℕ) → length line ≤ k + at → leading_pair k (drop at line) ≡ o
 
-pub record TwoRead (line : List ℕ) (at : ℕ) (before : List Code) (end : ℕ) (codes : List Code) : Type 0 where
+pub record TwoRead (line : List ℕ) (at : ℕ) (before : List (Code ℕ)) (end : ℕ) (codes : List (Code ℕ)) : Type 0 where
   pub left : Expression
   pub right : Expression
   pub found : PairLeads line at (some (left, right, drop end line))
   pub read : HasRead line at before end codes (codes_of left ++ codes_of right) 1
 
-unfoldable pub PairRead : List ℕ → ℕ → List Code → Prelude.Option ℕ → List Code → Type 0
+unfoldable pub PairRead : List ℕ → ℕ → List (Code ℕ) → Prelude.Option ℕ → List (Code ℕ) → Type 0
 PairRead line at before (Some end) codes = TwoRead line at before end codes
 PairRead line at before None codes = PairLeads line at none
 
 -- an expression was read from a place to the line's end, and these are its codes
-pub record WholeRead (line : List ℕ) (at : ℕ) (codes : List Code) : Type 0 where
+pub record WholeRead (line : List ℕ) (at : ℕ) (codes : List (Code ℕ)) : Type 0 where
   pub tree : Expression
   pub found : expression (drop at line) ≡ some tree
   pub same : codes ≡ codes_of tree
 
 -- what reading an expression from a place to the line's end promises
-unfoldable pub ExpressionRead : List ℕ → ℕ → Prelude.Option (ArrayVec Code) → Type 0
+unfoldable pub ExpressionRead : List ℕ → ℕ → Prelude.Option (ArrayVec (Code ℕ)) → Type 0
 ExpressionRead line at (Some codes) = WholeRead line at codes.items
 ExpressionRead line at None = expression (drop at line) ≡ none

@@ -11,23 +11,25 @@ use arrayvec::ArrayVec;
 // The most codes that an expression of a line can have.
 pub const CODE_COUNT: usize = 31;
 
-// What an expression is kept as: a code for each node, in the order left, right, join.
+// What an expression is kept as: a code for each node, in the order left, right, join. A number `N` of a policy may be any
+// that a line gives, or a small one where it is known to be.
 #[derive(Clone, Copy, Default, PartialEq, Eq)]
-pub enum Code {
+pub enum Code<N> {
     #[default]
     Min,
     Max,
-    Policy(u32),
+    Policy(N),
 }
 
-pub type Codes = ArrayVec<Code, CODE_COUNT>;
+// The codes of an expression as it is read.
+pub type Codes = ArrayVec<Code<u32>, CODE_COUNT>;
 
 // How many bytes `min` and `max` have.
 const JOIN_BYTES: usize = 3;
 
 // `min` or `max` at `at`.
 #[tactic(auto, unfolding(crate::specs::Parsing::JoinRead, crate::specs::Expressions::leading_join, crate::specs::Expressions::min_max_word, crate::specs::Codes::code_of))]
-fn read_join(line: &[u8], at: usize) -> Option<Code>
+fn read_join(line: &[u8], at: usize) -> Option<Code<u32>>
     ensures { JoinRead (drop at line.now) result }
 {
     if begins(line, at, b"min") {
