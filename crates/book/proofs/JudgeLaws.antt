@@ -50,7 +50,7 @@ every-all : {A : Type 0} (test : A → Bool) (xs : List A) → list_all test xs 
 every-all test [] = refl
 every-all test (x ∷ xs) = rw (every-all test xs)
 
-pub mentions_all : (codes : List Code) (n : ℕ) → AreCodes codes → list_all (code_below n) codes ≡ mentions_below n (expression_of codes)
+pub mentions_all : (codes : List (Code ℕ)) (n : ℕ) → AreCodes codes → list_all (code_below n) codes ≡ mentions_below n (expression_of codes)
 mentions_all codes n h = every-all (code_below n) codes ∙ ap (every (code_below n)) h ∙ codes-below n (expression_of codes)
 
 exists-any : {A : Type 0} (test : A → Bool) (xs : List A) → list_any test xs ≡ exists test xs

@@ -1,24 +1,28 @@
 -- Which policies the codes of an expression mention: those below a number.
-use Prim.Native.Nat.{ℕ, ◌<◌}
+use Prim.Native.Nat.{ℕ, ◌≤◌, ◌<◌}
 use mathlib.Core.Bool.{true, ◌&&◌, and_assoc, and-true}
 use mathlib.Core.List.{List, [], ◌∷◌, ◌++◌}
-use mathlib.Core.Path.{◌≡◌, refl, sym, subst, ◌∙◌}
+use mathlib.Core.Path.{◌≡◌, refl, sym, ap, subst, ◌∙◌}
+use native.Mathlib.Omega.{arith}
 use lib.Dec.{ltb}
 use lib.ListN.{length, get_or}
 use borrow.Author.Tests.{ltb-true}
 use Rattle.arith.specs.Lists.{every}
+use Rattle.arith.specs.Members.{Each}
 use Rattle.arith.specs.Trees.{joining, leaf, join, tree_value}
 use Rattle.arith.proofs.Each.{each-get}
+use Rattle.arith.proofs.Tests.{and_left, and_right}
 use Rattle.arith.proofs.Members.{each-every}
 use Rattle.peal.specs.Policies.{MinMax, smaller, larger, Expression}
-use Rattle.text.specs.Codes.{code_of, codes_of}
+use Rattle.text.specs.Codes.{code_of, codes_of, expression_of, AreCodes}
 use Rattle.text.specs.declared.expressions.Code.{Code}
-use Rattle.text.specs.declared.expressions.Code.TheVariants.{Min, Policy}
+use Rattle.text.specs.declared.expressions.Code.TheVariants.{Min, Max, Policy}
 use Rattle.text.proofs.CodeLaws.{codes-leaf, codes-join}
 use Rattle.book.specs.Acceptance.{mentions_below}
 use Rattle.book.specs.Judged.{code_below}
+use Rattle.book.specs.SoFar.{SmallCode}
 
-every_append : (n : ℕ) (a b : List Code) → every (code_below n) (a ++ b) ≡ (every (code_below n) a && every (code_below n) b)
+every_append : (n : ℕ) (a b : List (Code ℕ)) → every (code_below n) (a ++ b) ≡ (every (code_below n) a && every (code_below n) b)
 every_append n [] b = refl
 every_append n (c ∷ a) b = rw (every_append n a b) (sym (and_assoc (code_below n c) (every (code_below n) a) (every (code_below n) b)))
 
@@ -38,5 +42,20 @@ codes-below n (join j a b) =
 pub mention-below : (e : Expression) (i n k : ℕ) → i < length (codes_of e) → mentions_below n e ≡ true → get_or (codes_of e) i Min ≡ Policy k → k < n
 mention-below e i n k h m is =
     let l = codes_of e in
-    let below : code_below n (get_or l i Min) ≡ true = each-get (λ (y : Code). code_below n y ≡ true) l i Min (each-every (code_below n) l (codes-below n e ∙ m)) h in
-    ltb-true k n (subst (λ (y : Code). code_below n y ≡ true) is below)
+    let below : code_below n (get_or l i Min) ≡ true = each-get (λ (y : Code ℕ). code_below n y ≡ true) l i Min (each-every (code_below n) l (codes-below n e ∙ m)) h in
+    ltb-true k n (subst (λ (y : Code ℕ). code_below n y ≡ true) is below)
+
+-- ---- such codes have small numbers, where n is one that a book allows
+
+small-code : (n : ℕ) → n ≤ 16 → (c : Code ℕ) → code_below n c ≡ true → SmallCode c
+small-code n few Min h = tt
+small-code n few Max h = tt
+small-code n few (Policy k) h = omega (arith, ltb-true k n h)
+
+all-small : (n : ℕ) → n ≤ 16 → (codes : List (Code ℕ)) → every (code_below n) codes ≡ true → Each SmallCode codes
+all-small n few [] h = tt
+all-small n few (c ∷ codes) h =
+    (small-code n few c (and_left (code_below n c) (every (code_below n) codes) h), all-small n few codes (and_right (code_below n c) (every (code_below n) codes) h))
+
+pub codes-small : (n : ℕ) → n ≤ 16 → (codes : List (Code ℕ)) → AreCodes codes → mentions_below n (expression_of codes) ≡ true → Each SmallCode codes
+codes-small n few codes are m = all-small n few codes (ap (every (code_below n)) are ∙ codes-below n (expression_of codes) ∙ m)

@@ -2,7 +2,7 @@
 use Rattle.std.specs.Prelude.{ℕ, ◌≤◌, Bool, List, ◌≡◌, eqb, length, Result, Ok, Err, Some}
 use Rattle.answers.specs.Answers.{Answer, result, refused}
 use Rattle.peal.specs.Policies.{Book}
-use Rattle.text.specs.Codes.{AreCodes}
+use Rattle.text.specs.Codes.{code_cells, AreCodes}
 use Rattle.text.specs.Forms.{Form, old_zero}
 use Rattle.text.specs.LineMeaning.{line_meaning, StartIn}
 use Rattle.text.specs.declared.expressions.Code.{Code}
@@ -29,8 +29,9 @@ abbrev pub OldZeroAdded : Book → SoFar → (top : Bool) → Result SoFar Reaso
 OldZeroAdded b state top step = (n : ℕ) → top ≡ eqb n 1 → step_meaning n step b ≡ accept n (so_far_of b state) old_zero
 
 -- a condition of these codes can be added
-pub record CanAddCondition (so_far : BookSoFar) (codes : List Code) : Type 0 where
+pub record CanAddCondition (so_far : BookSoFar) (codes : List (Code ℕ)) : Type 0 where
   pub bounded : Bounded so_far
+  pub few : length codes ≤ code_cells
   pub are : AreCodes codes
 
 -- a form can be added that was read of a line of at most 128 bytes

@@ -29,7 +29,7 @@ abbrev pub JudgedBy : Book → Form → Result (Unit {0}) Reason → Type 0
 JudgedBy b f verdict = (state : SoFar) → Judged (so_far_of b state) f verdict
 
 -- the code of a join, or of one of the first n policies
-abbrev pub code_below : ℕ → Code → Bool
+abbrev pub code_below : ℕ → Code ℕ → Bool
 code_below n Min = true
 code_below n Max = true
 code_below n (Policy k) = ltb k n

@@ -28,7 +28,7 @@ pub struct SoFar {
 }
 
 // A join, or one of the first so many policies.
-fn is_below(code: Code, policies: usize) -> bool
+fn is_below(code: Code<u32>, policies: usize) -> bool
     ensures { result ≡ code_below policies code }
 {
     match code {
@@ -38,7 +38,7 @@ fn is_below(code: Code, policies: usize) -> bool
 }
 
 // Each policy that these codes mention is one of the first so many.
-fn mentions_below(codes: &[Code], policies: usize) -> bool
+fn mentions_below(codes: &[Code<u32>], policies: usize) -> bool
     ensures { result ≡ list_all (code_below policies) codes.now }
 {
     codes.iter().all(|code| is_below(*code, policies))
@@ -95,7 +95,7 @@ pub fn judge_rule(book: &Book, state: SoFar, rule: peal::Rule) -> Result<(), Rea
 }
 
 // The codes are those of the condition's expression.
-pub fn judge_condition(book: &Book, threshold: i32, codes: &[Code]) -> Result<(), Reason>
+pub fn judge_condition(book: &Book, threshold: i32, codes: &[Code<u32>]) -> Result<(), Reason>
     requires { AreCodes codes.now }
     ensures { (c : Sense) → JudgedBy book.now (condition c threshold (expression_of codes.now)) result }
 {

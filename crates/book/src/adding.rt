@@ -13,9 +13,9 @@ ghost use Rattle.book.specs.Adding.{Adds, OldZeroAdded, CanAddCondition, CanAddF
 use crate::Reason;
 use crate::acceptance::{SoFar, judge_condition, judge_exclusion, judge_policy, judge_rule};
 use crate::books::Book;
-use crate::conditions::Condition;
+use crate::conditions::{Condition, kept_codes};
 use crate::policies::Policy;
-use text::{Codes, Line, read_expression, read_line};
+use text::{Code, Line, read_expression, read_line};
 
 // A score of 1.00, in hundredths.
 const FULL_SCORE: i32 = 100;
@@ -92,14 +92,14 @@ fn add_condition(
     state: SoFar,
     sense: peal::Sense,
     threshold: i32,
-    codes: Codes,
+    codes: &[Code<u32>],
 ) -> Result<SoFar, Reason>
-    requires { CanAddCondition (so_far_of book.old state) codes.items }
-    ensures { Adds (so_far_of book.old state) (condition sense threshold (expression_of codes.items))
+    requires { CanAddCondition (so_far_of book.old state) codes.now }
+    ensures { Adds (so_far_of book.old state) (condition sense threshold (expression_of codes.now))
         result book.new }
 {
-    judge_condition(book, threshold, &codes)?;
-    book.push_condition(Condition::new(sense, threshold, codes));
+    judge_condition(book, threshold, codes)?;
+    book.push_condition(Condition::new(sense, threshold, kept_codes(codes)));
     Ok(SoFar {
         in_rules: false,
         ..state
@@ -134,7 +134,7 @@ fn add_form(
             let Some(codes) = read_expression(line, from) else {
                 return Err(Reason::NoForm);
             };
-            add_condition(book, state, sense, threshold, codes)
+            add_condition(book, state, sense, threshold, &codes)
         }
         Line::Exclusion { first, second } => {
             add_exclusion(book, state, peal::Exclusion { first, second })

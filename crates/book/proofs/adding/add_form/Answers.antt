@@ -11,7 +11,12 @@ use Rattle.book.proofs.adding.add_form.Goals as goal
 
 pub add_condition-requires : goal.add_condition-requires
 unfolding ExpressionRead
-add_condition-requires c = record { bounded = c.requires.bounded; are = rw c.in-Some.ensures.same (are-codes c.in-Some.ensures.tree) }
+add_condition-requires c =
+    record {
+      bounded = c.requires.bounded;
+      few = c.deref.ensures.1;
+      are = rw (c.deref.ensures.0, c.in-Some.ensures.same) (are-codes c.in-Some.ensures.tree);
+    }
 
 pub returns-in-BarePolicy : goal.returns-in-BarePolicy
 unfolding accept_form
@@ -24,4 +29,4 @@ unfolding accept_form ExpressionRead
 returns-in-Some c =
     let x = c.in-Some.ensures in
     let same : to_z w32 (of_z w32 c.in-Condition.threshold) ≡ c.in-Condition.threshold = search rules in
-    λ n top. rw (c.in-Condition.is, x.found) (rw (same, x.same, expression-again x.tree) at (c.add_condition.ensures n))
+    λ n top. rw (c.in-Condition.is, x.found) (rw (same, c.deref.ensures.0, x.same, expression-again x.tree) at (c.add_condition.ensures n))
