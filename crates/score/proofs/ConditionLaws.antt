@@ -32,18 +32,18 @@ unfolding policy_at
 policy-read ps k h qs e p f = f ∙ ap (λ (l : List Policy). get_or l k p) e ∙ get_or_default ps k p _ h
 
 -- what the code has read of condition n: its codes, of a book in range
-pub record Read (b : Book) (n : ℕ) (codes : List Code) : Type 0 where
+pub record Read (b : Book) (n : ℕ) (codes : List (Code ℕ)) : Type 0 where
   pub there : n < length b.conditions
   pub range : BookInRange b
   pub are : codes ≡ codes_of (the_condition b n).expression
 
 pub is_read : (b : Book) (n : ℕ) → n < length b.conditions → BookInRange b → (cs : List Condition) → cs ≡ b.conditions → (c : Condition) → c ≡ get_or cs n c
-    → (codes : List Code) → codes ≡ codes_of c.expression → Read b n codes
+    → (codes : List (Code ℕ)) → codes ≡ codes_of c.expression → Read b n codes
 is_read b n h r cs e c f codes g =
     record { there = h; range = r; are = g ∙ ap (λ (x : Condition). codes_of x.expression) (condition-read b n h cs e c f) }
 
 -- node i of condition n, and what waits before it
-module _ {b : Book} {n : ℕ} {codes : List Code} (r : Read b n codes) {set i : ℕ} {waiting : List Exact}
+module _ {b : Book} {n : ℕ} {codes : List (Code ℕ)} (r : Read b n codes) {set i : ℕ} {waiting : List Exact}
     (u : Underway b.policies set (the_condition b n).expression i waiting) where
   abbrev e : Expression
   e = (the_condition b n).expression
@@ -55,8 +55,8 @@ module _ {b : Book} {n : ℕ} {codes : List Code} (r : Read b n codes) {set i : 
     few-nodes : (i < length (postfix e)) × (length (postfix e) ≤ 31)
     few-nodes = (omega (arith, within, codes-nodes e), omega (arith, codes-few b n r.there r.range, codes-nodes e))
 
-    told-of : (code : Code) → get_or codes i Min ≡ code → get_or (codes_of e) i Min ≡ code
-    told-of code told = ap (λ (l : List Code). get_or l i Min) (sym r.are) ∙ told
+    told-of : (code : Code ℕ) → get_or codes i Min ≡ code → get_or (codes_of e) i Min ≡ code
+    told-of code told = ap (λ (l : List (Code ℕ)). get_or l i Min) (sym r.are) ∙ told
 
     -- a mention
     module _ {k : ℕ} (told : get_or codes i Min ≡ Mention k) where

@@ -26,7 +26,7 @@ abbrev Nodes : Type 0
 Nodes = List (Node MinMax ℕ)
 
 -- the node of a code
-pub node-here : (e : Expression) (i : ℕ) (code : Code) → i < length (codes_of e) → get_or (codes_of e) i Min ≡ code
+pub node-here : (e : Expression) (i : ℕ) (code : Code ℕ) → i < length (codes_of e) → get_or (codes_of e) i Min ≡ code
     → drop i (postfix e) ≡ node_meaning code ∷ drop (i + 1) (postfix e)
 node-here e i code h told =
     let same : node_of e i ≡ node_meaning code = sym (node-code (node_of e i)) ∙ ap node_meaning (sym (code-node e i) ∙ told) in
