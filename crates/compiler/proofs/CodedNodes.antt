@@ -51,15 +51,15 @@ module _ (b : Book) (c : Condition) where
   nodes-coded = tree-nodes c.expression
 
   -- how many lines the node of a code has
-  abbrev pub lines_at : Code → ℕ
+  abbrev pub lines_at : Code ℕ → ℕ
   lines_at code = lines_in (coded_node b c code)
 
-  map-lines : (codes : List Code) → map lines_in (map (coded_node b c) codes) ≡ map lines_at codes
+  map-lines : (codes : List (Code ℕ)) → map lines_in (map (coded_node b c) codes) ≡ map lines_at codes
   map-lines [] = refl
   map-lines (x ∷ xs) = ap (λ (l : List ℕ). lines_at x ∷ l) (map-lines xs)
 
   -- the codes as the code has them
-  module _ {codes : List Code} (is : codes ≡ codes_of c.expression) where
+  module _ {codes : List (Code ℕ)} (is : codes ≡ codes_of c.expression) where
     pub nodes-count : length (nodes_of b c) ≡ length codes
     nodes-count = ap length (nodes-coded ∙ ap (map (coded_node b c)) (sym is)) ∙ length-map codes (coded_node b c)
 
@@ -89,11 +89,11 @@ module _ (b : Book) (c : Condition) where
     -- ---- they mention policies of the book, and have few lines
 
     module _ (range : ConditionInRange (length b.policies) c) where
-      kept-as : (i : ℕ) → i < length codes → (y : Code) → get_or codes i Min ≡ y → CodeKept b y
+      kept-as : (i : ℕ) → i < length codes → (y : Code ℕ) → get_or codes i Min ≡ y → CodeKept b y
       kept-as i h Min e = tt
       kept-as i h Max e = tt
       kept-as i h (Policy k) e =
-          mention-below c.expression i (length b.policies) k (omega (arith, ap length is)) range.mentions (sym (ap (λ (l : List Code). get_or l i Min) is) ∙ e)
+          mention-below c.expression i (length b.policies) k (omega (arith, ap length is)) range.mentions (sym (ap (λ (l : List (Code ℕ)). get_or l i Min) is) ∙ e)
 
       pub code-kept : (i : ℕ) → i < length codes → CodeKept b (get_or codes i Min)
       code-kept i h = kept-as i h (get_or codes i Min) refl
@@ -102,7 +102,7 @@ module _ (b : Book) (c : Condition) where
       codes-few = omega (arith, ap length is, codes-count c.expression, range.mentions_room)
 
       module _ (books : BookInRange b) where
-        few-lines : (y : Code) → CodeKept b y → lines_at y ≤ 65536
+        few-lines : (y : Code ℕ) → CodeKept b y → lines_at y ≤ 65536
         unfolding lines_in listed
         few-lines Min h = omega arith
         few-lines Max h = omega arith
@@ -114,7 +114,7 @@ module _ (b : Book) (c : Condition) where
               (lines-are-few p.operator c.threshold p.rules).of_sixteen (rules-at-most p (policy-in-range b books k h)),
             )
 
-        sum-few : (l : List Code) → ((i : ℕ) → i < length l → CodeKept b (get_or l i Min)) → sum (map lines_at l) ≤ 65536 * length l
+        sum-few : (l : List (Code ℕ)) → ((i : ℕ) → i < length l → CodeKept b (get_or l i Min)) → sum (map lines_at l) ≤ 65536 * length l
         sum-few [] h = omega arith
         sum-few (y ∷ l) h =
             omega (arith, few-lines y (h 0 (omega arith)), sum-few l (λ i g. h (suc i) (omega arith)), sum_by-cons (λ (n : ℕ). n) (lines_at y) (map lines_at l))
@@ -126,39 +126,39 @@ module _ (b : Book) (c : Condition) where
 -- ---- a node by its code
 
 -- a mention is of a policy of the book, which the code finds in it
-pub mention-there : (b : Book) {code : Code} {k : ℕ} → code ≡ Policy k → CodeKept b code → k < length b.policies
+pub mention-there : (b : Book) {code : Code ℕ} {k : ℕ} → code ≡ Policy k → CodeKept b code → k < length b.policies
 mention-there b e h = subst (CodeKept b) e h
 
 pub mentioned : (b : Book) (k : ℕ) {policies : List PealPolicy} → policies ≡ b.policies → k < length b.policies → {p : PealPolicy} → p ≡ get_or policies k p → p ≡ policy_at b.policies k
 unfolding policy_at
 mentioned b k same there {p} is = is ∙ ap (λ (l : List PealPolicy). get_or l k p) same ∙ get_or_default b.policies k p empty_policy there
 
-pub mention-lines : (b : Book) (c : Condition) {code : Code} {k : ℕ} → code ≡ Policy k
+pub mention-lines : (b : Book) (c : Condition) {code : Code ℕ} {k : ℕ} → code ≡ Policy k
     → lines_in (coded_node b c code) ≡ length (lines_of c.threshold (policy_at b.policies k))
 unfolding lines_in listed
 mention-lines b c {k = k} e =
-    ap (λ (y : Code). lines_in (coded_node b c y)) e ∙ length-map (lines_of c.threshold (policy_at b.policies k)) mask_of
+    ap (λ (y : Code ℕ). lines_in (coded_node b c y)) e ∙ length-map (lines_of c.threshold (policy_at b.policies k)) mask_of
 
 -- a join has none
-pub no-mention : (b : Book) (c : Condition) (code : Code) → ((k : ℕ) → code ≡ Policy k → ⊥) → lines_in (coded_node b c code) ≡ 0
+pub no-mention : (b : Book) (c : Condition) (code : Code ℕ) → ((k : ℕ) → code ≡ Policy k → ⊥) → lines_in (coded_node b c code) ≡ 0
 unfolding lines_in
 no-mention b c Min h = refl
 no-mention b c Max h = refl
 no-mention b c (Policy k) h = absurd (h k refl)
 
 -- a code of a join that is not max is min
-pub is-larger : (m : MinMax) {code : Code} → code ≡ code_of (joining m) → code ≡ Max → m ≡ larger
+pub is-larger : (m : MinMax) {code : Code ℕ} → code ≡ code_of (joining m) → code ≡ Max → m ≡ larger
 unfolding code_of
 is-larger smaller e h = cc
 is-larger larger e h = refl
 
-pub is-smaller : (m : MinMax) {code : Code} → code ≡ code_of (joining m) → (code ≡ Max → ⊥) → m ≡ smaller
+pub is-smaller : (m : MinMax) {code : Code ℕ} → code ≡ code_of (joining m) → (code ≡ Max → ⊥) → m ≡ smaller
 unfolding code_of
 is-smaller smaller e h = refl
 is-smaller larger e h = absurd (h e)
 
 -- and a code that mentions no policy is of a join
-pub join-coded : (b : Book) (c : Condition) (code : Code) → ((k : ℕ) → code ≡ Policy k → ⊥)
+pub join-coded : (b : Book) (c : Condition) (code : Code ℕ) → ((k : ℕ) → code ≡ Policy k → ⊥)
     → (m : MinMax) × (code ≡ code_of (joining m)) × (coded_node b c code ≡ joining (join_of c.sense m))
 unfolding code_of
 join-coded b c Min h = (smaller, refl, refl)

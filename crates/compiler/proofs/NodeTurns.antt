@@ -43,7 +43,7 @@ module _ (b : Book) (c : Condition) where
     pub leads : put_records words at (node_records at (drop i nodes)) ≡ put_records lent first (node_records first nodes)
 
   -- the codes, and the counts, as the code has them
-  module _ {codes : List Code} (is : codes ≡ codes_of c.expression) {lines : List ℕ} (of_nodes : lines ≡ map lines_in nodes) (i : ℕ) where
+  module _ {codes : List (Code ℕ)} (is : codes ≡ codes_of c.expression) {lines : List ℕ} (of_nodes : lines ≡ map lines_in nodes) (i : ℕ) where
     many : length lines ≡ length codes
     many = lines-count b c is of_nodes
 

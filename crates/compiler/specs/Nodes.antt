@@ -15,17 +15,17 @@ unfoldable pub nodes_of : Book → Condition → List ListedNode
 nodes_of b c = postfix (translated b.policies c)
 
 -- the node of a code
-abbrev pub coded_node : Book → Condition → Code → ListedNode
+abbrev pub coded_node : Book → Condition → Code ℕ → ListedNode
 coded_node b c Min = joining (join_of c.sense smaller)
 coded_node b c Max = joining (join_of c.sense larger)
 coded_node b c (Policy k) = value (listed c.sense c.threshold (policy_at b.policies k))
 
 -- so it is for the join that the code may be of
-abbrev pub ForJoin : Code → (MinMax → Type 0) → Type 0
+abbrev pub ForJoin : Code ℕ → (MinMax → Type 0) → Type 0
 ForJoin code P = (m : MinMax) → code ≡ code_of (joining m) → P m
 
 -- a code mentions policies of the book alone
-abbrev pub CodeKept : Book → Code → Type 0
+abbrev pub CodeKept : Book → Code ℕ → Type 0
 CodeKept b Min = Unit {0}
 CodeKept b Max = Unit {0}
 CodeKept b (Policy k) = k < length b.policies

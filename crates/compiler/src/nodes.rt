@@ -20,7 +20,7 @@ use text::{CODE_COUNT, Code};
 pub type LineCounts = ArrayVec<usize, CODE_COUNT>;
 
 // The kind of a join: for min "and" under `<` and "or" under `>=`, for max the reverse.
-fn join_kind(sense: peal::Sense, code: Code) -> u32
+fn join_kind(sense: peal::Sense, code: Code<u8>) -> u32
     ensures { ForJoin code (λ m. result ≡ join_kind (join_of sense m)) }
 {
     match code {
@@ -67,7 +67,7 @@ fn number_if(there: bool, number: usize) -> u32
 }
 
 // How many lines the node of a code has.
-fn node_lines(book: &book::Book, condition: &book::Condition, code: Code) -> usize
+fn node_lines(book: &book::Book, condition: &book::Condition, code: Code<u8>) -> usize
     requires { CodeKept book.now code × ThresholdFits condition.now.threshold }
     ensures { result ≡ lines_in (coded_node book.now condition.now code) }
 {
@@ -109,7 +109,7 @@ pub fn count_records(exclusions: usize, lines: &[usize]) -> usize
 
 // A join as record `at`; `more` tells whether a node follows. `words` and `at` stay two here and below, as layout's
 // `put_record` and the contract of `compile` have them.
-fn put_join(sense: peal::Sense, code: Code, words: &mut [u32], at: usize, more: bool)
+fn put_join(sense: peal::Sense, code: Code<u8>, words: &mut [u32], at: usize, more: bool)
     requires { RoomFor at 1 words.old }
     ensures { ForJoin code
         (λ m. words.new ≡ put_records words.old at (one_node at more (joining (join_of sense m)))) }
@@ -153,7 +153,7 @@ fn put_policy(
 fn put_node(
     book: &book::Book,
     condition: &book::Condition,
-    code: Code,
+    code: Code<u8>,
     count: usize,
     words: &mut [u32],
     at: usize,

@@ -1,4 +1,5 @@
 -- `compiler::nodes::put_node`: a join's record, or a mention's.
+use Prim.Native.Nat.{ℕ}
 use mathlib.Core.Path.{sym, ap, ◌∙◌}
 use lib.ListN.{length}
 use Rattle.arith.specs.Trees.{value, joining}
@@ -28,7 +29,7 @@ returns-in-Policy c =
     let p = mentioned b c.in-Policy.k c.policies.ensures.policies (mention-there b c.in-Policy.is c.requires.kept.0) c.index-policies-k.is in
     c.put_policy.ensures
     ∙ ap (λ (q : Policy). put_records a.words.now a.at (one_node a.at a.more (value (listed d.sense d.threshold q)))) p
-    ∙ ap (λ (y : Code). put_records a.words.now a.at (one_node a.at a.more (coded_node b d y))) (sym c.in-Policy.is)
+    ∙ ap (λ (y : Code ℕ). put_records a.words.now a.at (one_node a.at a.more (coded_node b d y))) (sym c.in-Policy.is)
 
 pub returns-in_default : goal.returns-in_default
 returns-in_default c =
