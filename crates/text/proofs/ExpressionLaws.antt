@@ -1,12 +1,14 @@
 -- Laws of expressions: what reading a policy number, a join and an expression at a place comes to, and what it adds to the codes.
 use Prim.Native.Nat.{ℕ, zero, suc, ◌+◌, ◌-◌, ◌≤◌, ◌<◌}
 use mathlib.Core.Path.{◌≡◌, refl, ap, subst, ◌∙◌}
-use mathlib.Core.Bool.{true, false}
+use mathlib.Core.Bool.{Bool, true, false}
 use mathlib.Core.List.{List, [], ◌∷◌, ◌++◌, append_assoc}
 use mathlib.Core.Option.{Option, none, some}
 use native.Mathlib.Omega.{arith}
+use lib.Dec.{eqb}
 use lib.ListN.{length, take, drop, length-take, length-drop, length-append}
 use lib.Seq.{drop-drop, drop-cons, drop-length}
+use borrow.Author.Tests.{eqb-true, eqb-false}
 use Rattle.std.specs.Prelude
 use Rattle.std.specs.Prelude.{Some, None}
 use Rattle.arrayvec.specs.ArrayVec.{ArrayVec}
@@ -16,7 +18,7 @@ use Rattle.text.specs.Text.{bytes, begins}
 use Rattle.text.specs.Numbers.{natural}
 use Rattle.text.specs.Expressions.{mention_word, min_max_word, digit_count, mention, leading_join, leading_expression, nothing_after, expression}
 use Rattle.text.specs.Codes.{code_of, codes_of}
-use Rattle.text.specs.Parsing.{CanRead, MentionRead, Leads, TreeRead, LeadingRead, PairLeads, TwoRead, WholeRead, ExpressionRead}
+use Rattle.text.specs.Parsing.{CanRead, MentionRead, Leads, TreeRead, LeadingRead, PairLeads, TwoRead, WholeRead, CodesRead, ExpressionRead}
 use Rattle.text.specs.declared.expressions.Code.{Code}
 use Rattle.text.specs.declared.expressions.Code.TheVariants.{Policy}
 use Rattle.text.proofs.NumberLaws.{digits-within, natural-length}
@@ -33,6 +35,11 @@ module _ (line : List ℕ) (at : ℕ) (r : Prelude.Option (ArrayVec (Code ℕ)))
   pub expression-not-found : ExpressionRead line at r → r ≡ None → expression (drop at line) ≡ none
   unfolding ExpressionRead
   expression-not-found h e = subst (ExpressionRead line at) e h
+
+-- the same where the codes were lent
+pub codes-found : (line : List ℕ) (at : ℕ) {t : Bool} {codes : List (Code ℕ)} → CodesRead line at t codes → t ≡ true → WholeRead line at codes
+unfolding CodesRead
+codes-found line at {codes = codes} h e = subst (λ (t : Bool). CodesRead line at t codes) e h
 
 -- ---- room
 
@@ -155,19 +162,19 @@ module _ (line : List ℕ) (at : ℕ) (can : CanRead line at 0) where
   unfolding expression
   by-leading f = rw (f (length (drop at line)) (omega (arith, can.within, length-drop at line)))
 
-  pub no-expression : Leads line at none → ExpressionRead line at None
-  unfolding ExpressionRead nothing_after
-  no-expression f = by-leading f
+  pub no-expression : Leads line at none → (codes : List (Code ℕ)) → CodesRead line at false codes
+  unfolding CodesRead nothing_after
+  no-expression f codes = by-leading f
 
   module _ {before : List (Code ℕ)} {end : ℕ} {codes : List (Code ℕ)} (r : TreeRead line at before end codes) where
-    pub more-after : (end ≡ length line → ⊥) → ExpressionRead line at None
-    unfolding ExpressionRead nothing_after
+    more-after : (end ≡ length line → ⊥) → CodesRead line at false codes
+    unfolding CodesRead nothing_after
     more-after n =
         let l : end < length line = omega (arith, r.read.within) in
         by-leading r.found ∙ rw (drop-cons line end 0 l)
 
-    pub whole-read : before ≡ [] → end ≡ length line → WholeRead line at codes
-    unfolding nothing_after
+    whole-read : before ≡ [] → end ≡ length line → CodesRead line at true codes
+    unfolding CodesRead nothing_after
     whole-read b e =
         record {
           tree = r.tree;
@@ -175,9 +182,16 @@ module _ (line : List ℕ) (at : ℕ) (can : CanRead line at 0) where
           same = r.read.same ∙ ap (◌++ codes_of r.tree) b;
         }
 
--- every way through `read_mention`, `read_expression` and `read_leading`
+    pub codes-read : before ≡ [] → CodesRead line at (eqb end (length line)) codes
+    codes-read b = go (eqb end (length line)) refl
+      where
+        go : (t : Bool) → eqb end (length line) ≡ t → CodesRead line at t codes
+        go true h = whole-read b (eqb-true end (length line) h)
+        go false h = more-after (eqb-false end (length line) h)
+
+-- every way through `read_mention`, `read_codes` and `read_leading`
 pub ruleset mention_ways = (digits-within, length-drop, no-mention, mention-put)
 
-pub ruleset whole_ways = (no-expression, more-after, whole-read)
+pub ruleset whole_ways = (no-expression, codes-read)
 
 pub ruleset expression_ways = (word_room, can-on, join-room, leading-mention, leading-no-join, leading-no-pair, leading-joined)

@@ -1,5 +1,5 @@
 -- What the readers of an expression answer, and what they add to the codes. A place is a number of bytes of the line.
-use Rattle.std.specs.Prelude.{ℕ, ◌+◌, ◌*◌, ◌≤◌, ◌<◌, ◌≡◌, List, ◌++◌, length, drop, Some, None}
+use Rattle.std.specs.Prelude.{ℕ, Bool, true, false, ◌+◌, ◌*◌, ◌≤◌, ◌<◌, ◌≡◌, List, ◌++◌, length, drop, Some, None}
 use Rattle.std.specs.Prelude
 use Rattle.std.proofs.Math.Option.{Option, none, some}
 use Rattle.arrayvec.specs.ArrayVec.{ArrayVec}
@@ -75,6 +75,11 @@ pub record WholeRead (line : List ℕ) (at : ℕ) (codes : List (Code ℕ)) : Ty
   pub tree : Expression
   pub found : expression (drop at line) ≡ some tree
   pub same : codes ≡ codes_of tree
+
+-- what reading an expression from a place to the line's end promises, where the codes were lent
+unfoldable pub CodesRead : List ℕ → ℕ → Bool → List (Code ℕ) → Type 0
+CodesRead line at true codes = WholeRead line at codes
+CodesRead line at false codes = expression (drop at line) ≡ none
 
 -- what reading an expression from a place to the line's end promises
 unfoldable pub ExpressionRead : List ℕ → ℕ → Prelude.Option (ArrayVec (Code ℕ)) → Type 0

@@ -1,8 +1,8 @@
 // Expressions of a book, read into codes.
-ghost use Rattle.std.specs.Prelude.{◌≤◌, ◌<◌, length, drop};
+ghost use Rattle.std.specs.Prelude.{◌≡◌, ◌≤◌, ◌<◌, [], length, drop};
 ghost use Rattle.arrayvec.specs.ArrayVec.{array_vec_len};
 ghost use Rattle.text.specs.Codes.{code_cells};
-ghost use Rattle.text.specs.Parsing.{CanRead, JoinRead, MentionRead, LeadingRead, PairRead, ExpressionRead};
+ghost use Rattle.text.specs.Parsing.{CanRead, JoinRead, MentionRead, LeadingRead, PairRead, CodesRead, ExpressionRead};
 
 use crate::bytes::{begins, digits_end, has_byte};
 use crate::numbers::read_natural;
@@ -11,14 +11,14 @@ use arrayvec::ArrayVec;
 // The most codes that an expression of a line can have.
 pub const CODE_COUNT: usize = 31;
 
-// What an expression is kept as: a code for each node, in the order left, right, join. A number `N` of a policy may be any
-// that a line gives, or a small one where it is known to be.
+// What an expression is kept as: a code for each node, in the order left, right, join. The number of a policy may be
+// any that a line gives, or a small one where it is known to be. All bits of the code of policy 0 are zero.
 #[derive(Clone, Copy, Default, PartialEq, Eq)]
 pub enum Code<N> {
+    Policy(N),
     #[default]
     Min,
     Max,
-    Policy(N),
 }
 
 // The codes of an expression as it is read.
@@ -90,13 +90,29 @@ fn read_pair(line: &[u8], at: usize, codes: &mut Codes) -> Option<usize>
     Some(end + 1)
 }
 
+// Whether an expression stands from `at` to the line's end: its codes are put into the lent vector, which is not moved
+// then, as one that is returned is.
+#[tactic(auto, using(crate::proofs::ExpressionLaws::whole_ways), unfolding(crate::specs::Parsing::LeadingRead))]
+pub fn read_codes(line: &[u8], at: usize, codes: &mut Codes) -> bool
+    requires can { CanRead line.now at 0 }
+    requires none { codes.old.items ≡ [] }
+    ensures { CodesRead line.now at result codes.new.items }
+{
+    let Some(end) = read_leading(line, at, codes) else {
+        return false;
+    };
+    end == line.len()
+}
+
 // The expression that stands from `at` to the line's end.
-#[tactic(auto, using(crate::proofs::ExpressionLaws::whole_ways), unfolding(crate::specs::Parsing::LeadingRead, crate::specs::Parsing::ExpressionRead))]
+#[tactic(auto, unfolding(crate::specs::Parsing::CodesRead, crate::specs::Parsing::ExpressionRead))]
 pub fn read_expression(line: &[u8], at: usize) -> Option<Codes>
     requires { CanRead line.now at 0 }
     ensures { ExpressionRead line.now at result }
 {
     let mut codes = Codes::new();
-    let end = read_leading(line, at, &mut codes)?;
-    if end == line.len() { Some(codes) } else { None }
+    if !read_codes(line, at, &mut codes) {
+        return None;
+    }
+    Some(codes)
 }

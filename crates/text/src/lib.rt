@@ -9,5 +9,5 @@ mod lines;
 mod numbers;
 
 pub use bytes::line_end;
-pub use expressions::{CODE_COUNT, Code, Codes, read_expression};
+pub use expressions::{CODE_COUNT, Code, Codes, read_codes, read_expression};
 pub use lines::{Line, read_line};
