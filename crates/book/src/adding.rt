@@ -13,9 +13,9 @@ ghost use Rattle.book.specs.Adding.{Adds, OldZeroAdded, CanAddCondition, CanAddF
 use crate::Reason;
 use crate::acceptance::{SoFar, judge_condition, judge_exclusion, judge_policy, judge_rule};
 use crate::books::Book;
-use crate::conditions::{Condition, kept_codes};
+use crate::conditions::Condition;
 use crate::policies::Policy;
-use text::{Code, Line, read_expression, read_line};
+use text::{Code, Codes, Line, read_codes, read_line};
 
 // A score of 1.00, in hundredths.
 const FULL_SCORE: i32 = 100;
@@ -99,7 +99,7 @@ fn add_condition(
         result book.new }
 {
     judge_condition(book, threshold, codes)?;
-    book.push_condition(Condition::new(sense, threshold, kept_codes(codes)));
+    book.push_condition(Condition::new(sense, threshold, codes));
     Ok(SoFar {
         in_rules: false,
         ..state
@@ -108,7 +108,7 @@ fn add_condition(
 
 // A line of at most 128 bytes that was read as `form`; `top` tells whether it is line 1. It stands apart from
 // `add_line` so that each form's function is put in place by the back end (docs/DECISIONS.md, D34).
-#[tactic(auto, unfolding(crate::specs::Books::accept_form, text::specs::Parsing::ExpressionRead))]
+#[tactic(auto, unfolding(crate::specs::Books::accept_form, text::specs::Parsing::CodesRead))]
 fn add_form(
     book: &mut Book,
     state: SoFar,
@@ -131,9 +131,10 @@ fn add_form(
             threshold,
             from,
         } => {
-            let Some(codes) = read_expression(line, from) else {
+            let mut codes = Codes::new();
+            if !read_codes(line, from, &mut codes) {
                 return Err(Reason::NoForm);
-            };
+            }
             add_condition(book, state, sense, threshold, &codes)
         }
         Line::Exclusion { first, second } => {

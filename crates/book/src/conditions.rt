@@ -1,24 +1,26 @@
 // Conditions as they are kept.
-ghost use Rattle.std.specs.Prelude.{◌≡◌};
+ghost use Rattle.std.specs.Prelude.{◌≡◌, ◌+◌, ◌*◌, ◌≤◌, length, take};
 ghost use Rattle.peal.specs.Policies.{Condition as PealCondition};
-ghost use Rattle.text.specs.Codes.{codes_of, expression_of, AreCodes};
+ghost use Rattle.text.specs.Codes.{code_cells, codes_of, expression_of, AreCodes};
 ghost use Rattle.book.specs.SoFar.{condition_of, SmallCode, CanKeep};
 ghost use Rattle.std.specs.Coded.{codes as known_codes};
 ghost use Rattle.text.proofs.CodedExpressions.{coded_expression};
 
-use arrayvec::ArrayVec;
 use std::marker::Model;
 use text::{CODE_COUNT, Code};
 
 // The codes of a condition as they are kept: they mention policies of a book alone, whose numbers are small.
-pub type KeptCodes = ArrayVec<Code<u8>, CODE_COUNT>;
+type KeptCodes = [Code<u8>; CODE_COUNT];
 
 // A condition of an accepted book, or of a book so far: a clause sees the condition of document 01.
+// It has one mention more than joins, so the joins tell how many codes there are. All bits of a blank one are zero: one
+// `memset` makes a blank book.
 #[derive(Drop)]
 pub struct Condition {
     sense: peal::Sense,
     threshold: i32,
     codes: KeptCodes,
+    joins: usize,
 }
 
 impl Model for Condition {
@@ -26,29 +28,38 @@ impl Model for Condition {
 
     ghost coded = { Prim.hlevel (known_codes, coded_expression) };
 
-    ghost view = { λ c. record { sense = c.sense; threshold = c.threshold; expression = expression_of c.codes.items } };
+    ghost view = { λ c. record {
+      sense = c.sense;
+      threshold = c.threshold;
+      expression = expression_of (take (2 * c.joins + 1) c.codes);
+    } };
 
-    ghost invariant = { λ c. AreCodes c.codes.items };
+    ghost invariant = { λ c. (2 * c.joins + 1 ≤ code_cells) × AreCodes (take (2 * c.joins + 1) c.codes) };
 }
 
 impl Default for Condition {
     fn default() -> Condition {
-        let mut codes = KeptCodes::new();
-        codes.push(Code::Policy(0));
-        Condition::new(peal::Sense::Above, 0, codes)
+        Condition {
+            sense: peal::Sense::Above,
+            threshold: 0,
+            codes: [Code::Policy(0); CODE_COUNT],
+            joins: 0,
+        }
     }
 }
 
 impl Condition {
     // The codes are those of the expression.
-    pub(crate) fn new(sense: peal::Sense, threshold: i32, codes: KeptCodes) -> Condition
-        requires { AreCodes codes.items }
-        ensures { result ≡ condition_of sense threshold codes.items }
+    pub(crate) fn new(sense: peal::Sense, threshold: i32, codes: &[Code<u32>]) -> Condition
+        requires kept { CanKeep codes.now }
+        requires are { AreCodes codes.now }
+        ensures { result ≡ condition_of sense threshold codes.now }
     {
         Condition {
             sense,
             threshold,
-            codes,
+            codes: kept_codes(codes),
+            joins: codes.len() / 2,
         }
     }
 
@@ -68,7 +79,7 @@ impl Condition {
     pub fn codes(&self) -> &[Code<u8>]
         ensures { result.now ≡ codes_of self.now.expression }
     {
-        &self.codes
+        &self.codes[..2 * self.joins + 1]
     }
 }
 
@@ -85,13 +96,13 @@ fn kept_code(code: Code<u32>) -> Code<u8>
 }
 
 // The codes that were read, as they are kept.
-pub(crate) fn kept_codes(codes: &[Code<u32>]) -> KeptCodes
+fn kept_codes(codes: &[Code<u32>]) -> KeptCodes
     requires { CanKeep codes.now }
-    ensures { result.items ≡ codes.now }
+    ensures { take (length codes.now) result ≡ codes.now }
 {
-    let mut kept = KeptCodes::new();
-    for code in codes {
-        kept.push(kept_code(*code));
+    let mut kept = [Code::Policy(0); CODE_COUNT];
+    for (i, code) in codes.iter().enumerate() {
+        kept[i] = kept_code(*code);
     }
     kept
 }

@@ -26,10 +26,10 @@ fine c = rw (to_z-of_z w32 c.args.threshold c.ranges.threshold) at (c.in_ok-judg
 few : (c : In_ok-judge_condition) → leaf_count (expression_of c.args.codes.now) ≤ 16
 few c = omega (arith, c.requires.few, ap length c.requires.are, codes-count (expression_of c.args.codes.now))
 
-pub kept_codes-requires : goal.kept_codes-requires
+pub new-requires-clause-kept : goal.new-requires-clause-kept
 unfolding in_range
-kept_codes-requires c =
-    let i = (goal.at.kept_codes-requires c).In_ok-judge_condition in
+new-requires-clause-kept c =
+    let i = (goal.at.new-requires-clause-kept c).In_ok-judge_condition in
     let p = fine-passed _ (condition _ _ _) (fine i) in
     let t = threshold_in_range c.args.threshold in
     record {
@@ -41,4 +41,4 @@ pub push_condition-requires : goal.push_condition-requires
 unfolding with_line book_with
 push_condition-requires c =
     let i = (goal.at.push_condition-requires c).In_ok-judge_condition in
-    rw (c.new.ensures, c.kept_codes.ensures, to_z-of_z w32 c.args.threshold c.ranges.threshold) (fine-bounded _ (condition _ _ _) (fine i) c.requires.bounded (few i)).range
+    rw (c.new.ensures, to_z-of_z w32 c.args.threshold c.ranges.threshold) (fine-bounded _ (condition _ _ _) (fine i) c.requires.bounded (few i)).range
