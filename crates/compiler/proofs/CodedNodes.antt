@@ -74,29 +74,30 @@ module _ (b : Book) (c : Condition) where
       pub lines-count : length lines ≡ length codes
       lines-count = ap length same-lines ∙ length-map codes lines_at
 
-      pub lines-here : (i : ℕ) → i < length lines → get_or lines i 0 ≡ lines_at (get_or codes i Min)
+      pub lines-here : (i : ℕ) → i < length lines → get_or lines i 0 ≡ lines_at (get_or codes i (Policy 0))
       lines-here i h =
-          get_or_default lines i 0 (lines_at Min) h
-          ∙ ap (λ (l : List ℕ). get_or l i (lines_at Min)) same-lines ∙ get_or-map lines_at codes i Min
+          get_or_default lines i 0 (lines_at (Policy 0)) h
+          ∙ ap (λ (l : List ℕ). get_or l i (lines_at (Policy 0))) same-lines ∙ get_or-map lines_at codes i (Policy 0)
 
-    pub node-here : (i : ℕ) → i < length codes → drop i (nodes_of b c) ≡ coded_node b c (get_or codes i Min) ∷ drop (i + 1) (nodes_of b c)
+    pub node-here : (i : ℕ) → i < length codes → drop i (nodes_of b c) ≡ coded_node b c (get_or codes i (Policy 0)) ∷ drop (i + 1) (nodes_of b c)
     node-here i h =
         let same = nodes-coded ∙ ap (map (coded_node b c)) (sym is) in
         rw (add-one i)
-        (drop-cons (nodes_of b c) i (coded_node b c Min) (omega (arith, nodes-count))
-        ∙ ap (λ (n : ListedNode). n ∷ drop (suc i) (nodes_of b c)) (ap (λ (ns : List ListedNode). get_or ns i (coded_node b c Min)) same ∙ get_or-map (coded_node b c) codes i Min))
+        (drop-cons (nodes_of b c) i (coded_node b c (Policy 0)) (omega (arith, nodes-count))
+        ∙ ap (λ (n : ListedNode). n ∷ drop (suc i) (nodes_of b c)) (ap (λ (ns : List ListedNode). get_or ns i (coded_node b c (Policy 0))) same ∙ get_or-map (coded_node b c) codes i (Policy 0)))
 
     -- ---- they mention policies of the book, and have few lines
 
     module _ (range : ConditionInRange (length b.policies) c) where
-      kept-as : (i : ℕ) → i < length codes → (y : Code ℕ) → get_or codes i Min ≡ y → CodeKept b y
+      kept-as : (i : ℕ) → i < length codes → (y : Code ℕ) → get_or codes i (Policy 0) ≡ y → CodeKept b y
       kept-as i h Min e = tt
       kept-as i h Max e = tt
       kept-as i h (Policy k) e =
-          mention-below c.expression i (length b.policies) k (omega (arith, ap length is)) range.mentions (sym (ap (λ (l : List (Code ℕ)). get_or l i Min) is) ∙ e)
+          mention-below c.expression i (length b.policies) k (omega (arith, ap length is)) range.mentions
+          (sym (ap (λ (l : List (Code ℕ)). get_or l i Min) is) ∙ get_or_default codes i Min (Policy 0) h ∙ e)
 
-      pub code-kept : (i : ℕ) → i < length codes → CodeKept b (get_or codes i Min)
-      code-kept i h = kept-as i h (get_or codes i Min) refl
+      pub code-kept : (i : ℕ) → i < length codes → CodeKept b (get_or codes i (Policy 0))
+      code-kept i h = kept-as i h (get_or codes i (Policy 0)) refl
 
       pub codes-few : length codes ≤ 31
       codes-few = omega (arith, ap length is, codes-count c.expression, range.mentions_room)
@@ -114,7 +115,7 @@ module _ (b : Book) (c : Condition) where
               (lines-are-few p.operator c.threshold p.rules).of_sixteen (rules-at-most p (policy-in-range b books k h)),
             )
 
-        sum-few : (l : List (Code ℕ)) → ((i : ℕ) → i < length l → CodeKept b (get_or l i Min)) → sum (map lines_at l) ≤ 65536 * length l
+        sum-few : (l : List (Code ℕ)) → ((i : ℕ) → i < length l → CodeKept b (get_or l i (Policy 0))) → sum (map lines_at l) ≤ 65536 * length l
         sum-few [] h = omega arith
         sum-few (y ∷ l) h =
             omega (arith, few-lines y (h 0 (omega arith)), sum-few l (λ i g. h (suc i) (omega arith)), sum_by-cons (λ (n : ℕ). n) (lines_at y) (map lines_at l))

@@ -20,7 +20,7 @@ use Rattle.peal.specs.Policies.{Condition, Book}
 use Rattle.translation.specs.Translation.{pair_mask, listing_records}
 use Rattle.text.specs.Codes.{codes_of}
 use Rattle.text.specs.declared.expressions.Code.{Code}
-use Rattle.text.specs.declared.expressions.Code.TheVariants.{Min}
+use Rattle.text.specs.declared.expressions.Code.TheVariants.{Policy}
 use Rattle.compiler.specs.Nodes.{lines_in, coded_node, one_node, nodes_of}
 use Rattle.compiler.proofs.NodeLaws.{count-cons, put-cons}
 use Rattle.compiler.proofs.CodedNodes.{nodes-count, lines-count, lines-here, node-here}
@@ -60,7 +60,7 @@ module _ (b : Book) (c : Condition) where
       x = get_or lines i 0
 
       abbrev node : ListedNode
-      node = coded_node b c (get_or codes i Min)
+      node = coded_node b c (get_or codes i (Policy 0))
 
       counted : x ≡ lines_in node
       counted = lines-here b c is of_nodes i h

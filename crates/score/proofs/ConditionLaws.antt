@@ -55,11 +55,12 @@ module _ {b : Book} {n : ℕ} {codes : List (Code ℕ)} (r : Read b n codes) {se
     few-nodes : (i < length (postfix e)) × (length (postfix e) ≤ 31)
     few-nodes = (omega (arith, within, codes-nodes e), omega (arith, codes-few b n r.there r.range, codes-nodes e))
 
-    told-of : (code : Code ℕ) → get_or codes i Min ≡ code → get_or (codes_of e) i Min ≡ code
-    told-of code told = ap (λ (l : List (Code ℕ)). get_or l i Min) (sym r.are) ∙ told
+    told-of : (code : Code ℕ) → get_or codes i (Mention 0) ≡ code → get_or (codes_of e) i Min ≡ code
+    told-of code told =
+        get_or_default (codes_of e) i Min (Mention 0) within ∙ ap (λ (l : List (Code ℕ)). get_or l i (Mention 0)) (sym r.are) ∙ told
 
     -- a mention
-    module _ {k : ℕ} (told : get_or codes i Min ≡ Mention k) where
+    module _ {k : ℕ} (told : get_or codes i (Mention 0) ≡ Mention k) where
       here : drop i (postfix e) ≡ value k ∷ drop (i + 1) (postfix e)
       unfolding node_meaning
       here = node-here e i (Mention k) within (told-of (Mention k) told)
@@ -74,7 +75,7 @@ module _ {b : Book} {n : ℕ} {codes : List (Code ℕ)} (r : Read b n codes) {se
       past-mention {p} same {x} h = after-value b.policies set e i waiting u k here x (subst (λ (q : Policy). Is x (policy_score set q)) same h)
 
     -- a join
-    module _ (j : MinMax) (told : get_or codes i Min ≡ code_of (joining j)) where
+    module _ (j : MinMax) (told : get_or codes i (Mention 0) ≡ code_of (joining j)) where
       joined : drop i (postfix e) ≡ joining j ∷ drop (i + 1) (postfix e)
       joined = subst (λ (m : Node MinMax ℕ). drop i (postfix e) ≡ m ∷ drop (i + 1) (postfix e)) (node-code (joining j)) (node-here e i (code_of (joining j)) within (told-of (code_of (joining j)) told))
 
