@@ -13,22 +13,49 @@ pub const MOST_RULES: usize = 16;
 pub type Rules = ArrayVec<peal::Rule, MOST_RULES>;
 
 // A policy of an accepted book, or of a book so far: a clause sees the policy of document 01.
-#[derive(Drop)]
+#[derive(Clone, Copy)]
 pub struct Policy {
     operator: peal::Operator,
     default: i32,
-    rules: Rules,
+    // The rules are the first `count`; the places after them are blank.
+    rules: [peal::Rule; MOST_RULES],
+    count: usize,
     // The set of the rules' signals.
     mask: u16,
 }
 
 impl Model for Policy {
+    ghost use Rattle.std.specs.Prelude.{◌≡◌, length, take};
+    ghost use Rattle.std.proofs.Common.{sym};
+    ghost use Rattle.arith.specs.Padding.{padded};
+    ghost use Rattle.peal.specs.Policies.{Policy as PealPolicy, mask_of};
+    ghost use Rattle.peal.specs.Standins.{no_rule};
+    ghost use Rattle.book.specs.Ranges.{PolicyInRange};
+
     ghost Value = { PealPolicy };
 
-    ghost view = { λ p. record { operator = p.operator; default = p.default; rules = p.rules.items } };
+    ghost view = { λ p. record { operator = p.operator; default = p.default; rules = take p.count p.rules } };
 
-    ghost invariant = { λ p. (p.mask ≡ mask_of p.rules.items)
-        × PolicyInRange (record { operator = p.operator; default = p.default; rules = p.rules.items }) };
+    ghost invariant = { λ p. (p.mask ≡ mask_of (take p.count p.rules))
+        × PolicyInRange (record { operator = p.operator; default = p.default; rules = take p.count p.rules })
+        × (length (take p.count p.rules) ≡ p.count)
+        × (p.rules ≡ padded 16 no_rule (take p.count p.rules)) };
+
+    ghost inverse = { λ v. record {
+      operator = v.operator;
+      default = v.default;
+      rules = padded 16 no_rule v.rules;
+      count = length v.rules;
+      mask = mask_of v.rules;
+    } };
+
+    ghost inverse_ok = { λ p h i. record {
+      operator = p.operator;
+      default = p.default;
+      rules = sym h.3 i;
+      count = h.2 i;
+      mask = sym h.0 i;
+    } };
 }
 
 impl Default for Policy {
@@ -39,7 +66,7 @@ impl Default for Policy {
 
 impl Policy {
     // A policy without rules.
-    #[tactic(auto, unfolding(peal::specs::Policies::mask_of, signals::specs::Sets::set_of))]
+    #[tactic(auto, unfolding(peal::specs::Policies::mask_of, signals::specs::Sets::set_of, arith::specs::Padding::padded, peal::specs::Standins::no_rule))]
     pub(crate) fn new(operator: peal::Operator, default: i32) -> Policy
         requires { PolicyInRange (no_rules operator default) }
         ensures { result ≡ no_rules operator default }
@@ -47,7 +74,11 @@ impl Policy {
         Policy {
             operator,
             default,
-            rules: ArrayVec::new(),
+            rules: [peal::Rule {
+                signal: 0,
+                score: 0,
+            }; MOST_RULES],
+            count: 0,
             mask: 0,
         }
     }
@@ -58,7 +89,8 @@ impl Policy {
         ensures { self.new ≡ with_rule self.old rule }
     {
         self.mask = (self.mask as u32 + signals::bit(rule.signal)) as u16;
-        self.rules.push(rule);
+        self.rules[self.count] = rule;
+        self.count += 1;
     }
 
     pub fn operator(&self) -> peal::Operator
@@ -78,7 +110,7 @@ impl Policy {
         ensures rules { result.now ≡ self.now.rules }
         ensures range { PolicyInRange self.now }
     {
-        &self.rules
+        &self.rules[..self.count]
     }
 
     // The set of the rules' signals.
