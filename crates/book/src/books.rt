@@ -12,7 +12,7 @@ use arrayvec::ArrayVec;
 use std::marker::Model;
 
 // An accepted book, or a book so far: a clause sees the book of document 01.
-#[derive(Default, Drop)]
+#[derive(Clone, Default, Drop)]
 pub struct Book {
     policies: ArrayVec<Policy, { limits::MOST_POLICIES }>,
     exclusions: ArrayVec<peal::Exclusion, { limits::MOST_EXCLUSIONS }>,

@@ -6,6 +6,7 @@ ghost use Rattle.book.specs.SoFar.{condition_of, SmallCode, CanKeep};
 ghost use Rattle.std.specs.Coded.{codes as known_codes};
 ghost use Rattle.text.proofs.CodedExpressions.{coded_expression};
 
+use std::alloc::AllocError;
 use std::marker::Model;
 use text::{CODE_COUNT, Code};
 
@@ -35,6 +36,24 @@ impl Model for Condition {
     } };
 
     ghost invariant = { λ c. (2 * c.joins + 1 ≤ code_cells) × AreCodes (take (2 * c.joins + 1) c.codes) };
+}
+
+// Written out, so that a clone is said to be what it was made of.
+impl Clone for Condition {
+    ghost use Rattle.std.specs.Prelude.{◌≡◌, ⊤};
+
+    ghost is_clone = { λ c d. d ≡ c };
+
+    ghost is_infallible = { λ _. ⊤ };
+
+    fn clone(&self) -> Result<Condition, AllocError> {
+        Ok(Condition {
+            sense: self.sense,
+            threshold: self.threshold,
+            codes: self.codes,
+            joins: self.joins,
+        })
+    }
 }
 
 impl Default for Condition {
