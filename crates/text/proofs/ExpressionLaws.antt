@@ -162,19 +162,24 @@ module _ (line : List ℕ) (at : ℕ) (can : CanRead line at 0) where
   unfolding expression
   by-leading f = rw (f (length (drop at line)) (omega (arith, can.within, length-drop at line)))
 
-  pub no-expression : Leads line at none → (codes : List (Code ℕ)) → CodesRead line at false codes
+  pub no-expression : Leads line at none → ExpressionRead line at None
+  unfolding ExpressionRead nothing_after
+  no-expression f = by-leading f
+
+  -- the same where the codes were lent
+  pub no-codes : Leads line at none → (codes : List (Code ℕ)) → CodesRead line at false codes
   unfolding CodesRead nothing_after
-  no-expression f codes = by-leading f
+  no-codes f codes = by-leading f
 
   module _ {before : List (Code ℕ)} {end : ℕ} {codes : List (Code ℕ)} (r : TreeRead line at before end codes) where
-    more-after : (end ≡ length line → ⊥) → CodesRead line at false codes
-    unfolding CodesRead nothing_after
+    pub more-after : (end ≡ length line → ⊥) → ExpressionRead line at None
+    unfolding ExpressionRead nothing_after
     more-after n =
         let l : end < length line = omega (arith, r.read.within) in
         by-leading r.found ∙ rw (drop-cons line end 0 l)
 
-    whole-read : before ≡ [] → end ≡ length line → CodesRead line at true codes
-    unfolding CodesRead nothing_after
+    pub whole-read : before ≡ [] → end ≡ length line → WholeRead line at codes
+    unfolding nothing_after
     whole-read b e =
         record {
           tree = r.tree;
@@ -182,16 +187,18 @@ module _ (line : List ℕ) (at : ℕ) (can : CanRead line at 0) where
           same = r.read.same ∙ ap (◌++ codes_of r.tree) b;
         }
 
+    -- both where the codes were lent
     pub codes-read : before ≡ [] → CodesRead line at (eqb end (length line)) codes
+    unfolding ExpressionRead CodesRead
     codes-read b = go (eqb end (length line)) refl
       where
         go : (t : Bool) → eqb end (length line) ≡ t → CodesRead line at t codes
         go true h = whole-read b (eqb-true end (length line) h)
         go false h = more-after (eqb-false end (length line) h)
 
--- every way through `read_mention`, `read_codes` and `read_leading`
+-- every way through `read_mention`, through the whole field, and through `read_leading`
 pub ruleset mention_ways = (digits-within, length-drop, no-mention, mention-put)
 
-pub ruleset whole_ways = (no-expression, codes-read)
+pub ruleset whole_ways = (no-expression, more-after, whole-read, no-codes, codes-read)
 
 pub ruleset expression_ways = (word_room, can-on, join-room, leading-mention, leading-no-join, leading-no-pair, leading-joined)
